@@ -8,7 +8,7 @@ use crate::keys::{Spacing, in_order, number};
 use crate::meeting::Meeting;
 use crate::options::Options;
 use crate::timing::{Watch, nanoseconds_since, now};
-use nb_core::{Key, MANY_KEYS};
+use nb_core::{Key, MOST_KEYS};
 use nb_map::Map;
 use std::alloc::Global;
 use std::rt::Clock;
@@ -23,7 +23,7 @@ const TURNS: u64 = 8;
 /// a round of that length; no more than a shape can be asked for.
 pub(crate) fn keys_ever(keys: u32, threads: usize) -> usize {
     let live = u64::from(keys).max(threads as u64);
-    (live.wrapping_mul(TURNS + 1) as usize).min(MANY_KEYS)
+    (live.wrapping_mul(TURNS + 1) as usize).min(MOST_KEYS)
 }
 
 /// The job to make steps. The keys with numbers from the start are the first ones; of `threads`

@@ -6,7 +6,7 @@ ghost use Rattle.nb_core.specs.declared.shapes.TheConstants.{MAX_EXPONENT};
 use crate::churn::keys_ever;
 use crate::keys::{Law, Spacing};
 use crate::workloads::{Plan, Workload};
-use nb_core::{FEW_SEATS, MAX_EXPONENT, MOST_KEYS, Shape, ShapeFault};
+use nb_core::{MAX_EXPONENT, Shape, ShapeFault};
 use nb_lines::{CommandLine, Form, Given, NumberWord, Progress, Word, WordsFault, wrong_word};
 use std::alloc::Global;
 use std::time::Duration;
@@ -50,7 +50,7 @@ impl Options {
         if self.exponents.is_empty() {
             return self.shape_by_keys();
         }
-        Shape::large(self.exponents.as_slice())?
+        Shape::of_tables(self.exponents.as_slice())?
             .with_seats(self.threads)?
             .with_stripes(self.stripes)?
             .with_reprobe_limit(self.reprobes)?
@@ -59,28 +59,18 @@ impl Options {
 
     /// The shape for the workload's keys, in `G` for all that ever come.
     fn shape_by_keys(&self) -> Result<Shape, ShapeFault> {
-        let keys = self.keys as usize;
-        match self.workload {
-            Workload::Growth => self.shape_to_grow(keys),
-            Workload::Churn => Shape::for_many_keys(
-                keys_ever(self.keys, self.threads),
-                self.threads,
-            ),
-            _ => Shape::for_many_keys(keys, self.threads),
-        }
+        self.shape_for(match self.workload {
+            Workload::Churn => keys_ever(self.keys, self.threads),
+            _ => self.keys as usize,
+        })
     }
 
-    /// The shape of `Shape::for_keys`, with more seats if there are more threads; that of
-    /// `Shape::for_many_keys`, if there are more keys.
-    fn shape_to_grow(&self, keys: usize) -> Result<Shape, ShapeFault>
+    /// The shape for so many keys, with a seat for each thread.
+    fn shape_for(&self, keys: usize) -> Result<Shape, ShapeFault>
         ensures room { IfOk result (λ shape. HasRoomFor shape keys) }
         ensures seats { IfOk result (λ shape. shape.seats ≡ self.now.threads) }
     {
-        if keys > MOST_KEYS {
-            return Shape::for_many_keys(keys, self.threads);
-        }
-        let few = self.threads.min(FEW_SEATS);
-        Shape::for_keys(keys, few)?.with_seats(self.threads)
+        Shape::for_keys(keys, self.threads)
     }
 }
 

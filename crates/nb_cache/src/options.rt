@@ -19,7 +19,7 @@ impl Options {
     /// A map that begins small, and grows where a key isn't within a few slots of its home, up to
     /// a table with room for so many keys and more.
     pub(crate) fn shape(&self) -> Result<Shape, Fault> {
-        Ok(Shape::for_many_keys(self.keys, self.workers)?)
+        Ok(Shape::for_keys(self.keys, self.workers)?)
     }
 }
 

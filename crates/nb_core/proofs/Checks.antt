@@ -7,7 +7,7 @@ use Rattle.std.proofs.lemmas.Bool.Decides.{nat_tests}
 use Rattle.std.proofs.lemmas.List.Sorted.{IsNonDecreasingBy-drop}
 use Rattle.std.proofs.lemmas.List.Sums.{list_all-from_AllPass}
 use Rattle.nb_core.specs.declared.shapes.ShapeFault.TheVariants as fault
-use Rattle.nb_core.specs.Plans.{checked_large, checked_plan, is_within, never_falls, plan, seated, slots_in}
+use Rattle.nb_core.specs.Plans.{checked_tables, checked_plan, is_within, never_falls, plan, seated, slots_in}
 
 pub is_within-true : (low high n : ℕ) → (low ≤ n) × (n ≤ high) → is_within low high n ≡ true
 is_within-true low high n h = grind (arith, nat_tests)
@@ -72,13 +72,13 @@ checked_plan-falls es seats stripes few sizes falls =
 -- with so many exponents of larger tables, a fall or too many slots are left to refuse
 module _ (es : List ℕ) (few : (1 ≤ length es) × (length es ≤ 16))
     (sizes : All (λ e. (2 ≤ e) × (e ≤ 28)) es) where
-  pub checked_large-falls : never_falls es ≡ false → checked_large es ≡ Err fault.Plan
-  checked_large-falls falls =
+  pub checked_tables-falls : never_falls es ≡ false → checked_tables es ≡ Err fault.Plan
+  checked_tables-falls falls =
       rw (is_within-true 1 16 (length es) few, list_all-is_within 28 es sizes, falls)
 
-  pub checked_large-many :
-      never_falls es ≡ true → 2 ^ 30 < slots_in es → checked_large es ≡ Err fault.Slots
-  checked_large-many rises many =
+  pub checked_tables-many :
+      never_falls es ≡ true → 2 ^ 30 < slots_in es → checked_tables es ≡ Err fault.Slots
+  checked_tables-many rises many =
       rw (
         is_within-true 1 16 (length es) few,
         list_all-is_within 28 es sizes,
@@ -86,9 +86,9 @@ module _ (es : List ℕ) (few : (1 ≤ length es) × (length es ≤ 16))
         lt-leb (slots_in es) (2 ^ 30) many,
       )
 
-  pub checked_large-rises :
-      never_falls es ≡ true → slots_in es ≤ 2 ^ 30 → checked_large es ≡ Ok (plan es 1 1)
-  checked_large-rises rises fits =
+  pub checked_tables-rises :
+      never_falls es ≡ true → slots_in es ≤ 2 ^ 30 → checked_tables es ≡ Ok (plan es 1 1)
+  checked_tables-rises rises fits =
       rw (
         is_within-true 1 16 (length es) few,
         list_all-is_within 28 es sizes,

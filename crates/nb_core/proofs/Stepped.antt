@@ -9,7 +9,7 @@ use Rattle.std.proofs.lemmas.List.{get_or_append_left, get_or-append_right, get_
 use Rattle.std.proofs.lemmas.List.Sums.{sum_by_push}
 use Rattle.nb_core.specs.Plans.{slots_in, steps_down, tables_for}
 use Rattle.nb_core.proofs.Filled.{IsFilled}
-use Rattle.nb_core.specs.declared.shapes.wide.TheConstants.{FIRST_EXPONENT, STEP}
+use Rattle.nb_core.specs.declared.shapes.keys.TheConstants.{FIRST_EXPONENT, STEP}
 
 pub length-steps_down : (tables last : ℕ) → length (steps_down tables last) ≡ tables
 unfolding steps_down

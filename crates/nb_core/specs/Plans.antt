@@ -4,13 +4,13 @@ use Rattle.std.specs.Prelude.{◌≡◌, ℕ, ◌+◌, ◌*◌, ◌/◌, ◌-◌
 use Rattle.std.specs.Int.{is_power_of_two}
 use Rattle.std.specs.List.{list_all}
 use Rattle.std.specs.List.Sorted.{IsNonDecreasing}
-use Rattle.nb_core.specs.declared.shapes.TheConstants.{FEW_SEATS, FEW_STRIPES, MANY_KEYS, MAX_EXPONENT, MAX_GENERATIONS, MAX_SEATS, MAX_SLOTS, MAX_STRIPES, MOST_KEYS, SHARED_STRIPES, SMALL_EXPONENT}
+use Rattle.nb_core.specs.declared.shapes.TheConstants.{FEW_KEYS, FEW_SEATS, FEW_STRIPES, MAX_EXPONENT, MAX_GENERATIONS, MAX_SEATS, MAX_SLOTS, MAX_STRIPES, MOST_KEYS, SHARED_STRIPES, SMALL_EXPONENT}
 use Rattle.nb_core.specs.declared.shapes.HeaderWord.{HeaderWord}
 use Rattle.nb_core.specs.declared.shapes.HeaderWord.TheVariants as header
 use Rattle.nb_core.specs.declared.shapes.ShapeFault.{ShapeFault}
 use Rattle.nb_core.specs.declared.shapes.ShapeFault.TheVariants as fault
 use Rattle.nb_core.specs.declared.shapes.churn.TheConstants.{CHURN_GREATEST, CHURN_LEAST}
-use Rattle.nb_core.specs.declared.shapes.wide.TheConstants.{FIRST_EXPONENT, MANY_CHUNK, MANY_REPROBES, STEP}
+use Rattle.nb_core.specs.declared.shapes.keys.TheConstants.{FIRST_EXPONENT, MANY_CHUNK, MANY_REPROBES, STEP}
 
 -- Table g has 2 to the power exponents[g] slots. There are seats for so many callers, and a size is
 -- counted over so many stripes. No table but the last takes a new key past so many slots of the
@@ -165,8 +165,8 @@ checked_plan exponents seats stripes =
 
 -- the plan of these exponents, larger ones too, with one seat and one stripe, or the first thing
 -- that is wrong with it
-abbrev pub checked_large : List ℕ → Result Plan ShapeFault
-checked_large exponents =
+abbrev pub checked_tables : List ℕ → Result Plan ShapeFault
+checked_tables exponents =
     if not (is_within 1 MAX_GENERATIONS (length exponents)) then Err fault.Generations
     else if not (list_all (is_within 2 MAX_EXPONENT) exponents) then Err fault.Bits
     else if not (never_falls exponents) then Err fault.Plan
@@ -221,10 +221,10 @@ first_exponent (suc tries) e slots =
 abbrev pub exponent_for : ℕ → ℕ
 exponent_for most = first_exponent 23 5 (slots_for most)
 
--- the plan for so many keys: the last table has room for them, the first is an eighth of it, there
--- is a stripe for each seat, paths are short and chunks large
-abbrev pub plan_for_keys : ℕ → ℕ → Plan
-plan_for_keys most seats =
+-- the plan for few keys: the last table has room for them, the first is an eighth of it, there is a
+-- stripe for each seat, paths are short and chunks large
+abbrev pub plan_for_few_keys : ℕ → ℕ → Plan
+plan_for_few_keys most seats =
     record {
       exponents = (exponent_for most - 3) ∷ exponent_for most ∷ [];
       seats = seats;
@@ -232,13 +232,6 @@ plan_for_keys most seats =
       reprobes = 18;
       chunk = 64;
     }
-
--- the plan for so many keys and seats, or the first thing that is wrong with these
-abbrev pub checked_for_keys : ℕ → ℕ → Result Plan ShapeFault
-checked_for_keys most seats =
-    if not (nat_le most MOST_KEYS) then Err fault.Keys
-    else if not (is_within 1 FEW_SEATS seats) then Err fault.Seats
-    else Ok (plan_for_keys most seats)
 
 -- so many exponents, the last of which is this one, each STEP below the next
 unfoldable pub steps_down : (tables last : ℕ) → List ℕ
@@ -249,9 +242,8 @@ steps_down (suc tables) last = steps_down tables (last - STEP) ++ last ∷ []
 abbrev pub tables_for : ℕ → ℕ
 tables_for last = (last - FIRST_EXPONENT) / STEP + 1
 
--- the plan for so many keys, of more tables: the last has room for them, and each table below is
--- smaller by a fixed factor, so that a map with few keys stays small; each seat has a stripe, up to
--- so many
+-- the plan for many keys: the last table has room for them, and each table below is smaller by a
+-- fixed factor, so that a map with few keys stays small; each seat has a stripe, up to so many
 abbrev pub plan_for_many_keys : ℕ → ℕ → Plan
 plan_for_many_keys most seats =
     record {
@@ -262,12 +254,17 @@ plan_for_many_keys most seats =
       chunk = MANY_CHUNK;
     }
 
+-- the plan for so many keys, which are few or many
+abbrev pub plan_for_keys : ℕ → ℕ → Plan
+plan_for_keys most seats =
+    if nat_le most FEW_KEYS then plan_for_few_keys most seats else plan_for_many_keys most seats
+
 -- the plan for so many keys and seats, or the first thing that is wrong with these
-abbrev pub checked_for_many_keys : ℕ → ℕ → Result Plan ShapeFault
-checked_for_many_keys most seats =
-    if not (nat_le most MANY_KEYS) then Err fault.Keys
+abbrev pub checked_for_keys : ℕ → ℕ → Result Plan ShapeFault
+checked_for_keys most seats =
+    if not (nat_le most MOST_KEYS) then Err fault.Keys
     else if not (is_within 1 MAX_SEATS seats) then Err fault.Seats
-    else Ok (plan_for_many_keys most seats)
+    else Ok (plan_for_keys most seats)
 
 -- the last table has room for so many keys and for half as many again
 abbrev pub HasRoomFor : Plan → ℕ → Type 0

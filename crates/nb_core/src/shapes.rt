@@ -1,13 +1,11 @@
 //! The shape of a chain of tables.
-ghost use Rattle.std.specs.Prelude.{◌≡◌, ◌/◌, ◌-◌, ◌^◌, ◌<◌, ◌≤◌, All, IfOk, length};
+ghost use Rattle.std.specs.Prelude.{◌≡◌, ◌/◌, ◌-◌, ◌^◌, ◌<◌, ◌≤◌, All, length};
 ghost use Rattle.std.specs.List.Sorted.{IsNonDecreasing};
 ghost use Rattle.nb_core.specs.Plans.{
-  HasRoomFor,
   IsChunk,
   IsPlan,
   base_of,
   checked_chunk,
-  checked_for_keys,
   checked_plan,
   checked_reprobes,
   checked_shape,
@@ -27,6 +25,7 @@ ghost use Rattle.nb_core.specs.Paths.{IsPathIn};
 ghost use Rattle.nb_core.specs.Tables.{chunk_of, path_slot};
 
 mod churn;
+mod keys;
 mod wide;
 
 use crate::numbers::Key;
@@ -75,18 +74,19 @@ pub const MAX_STRIPES: usize = 256;
 /// The greatest exponent that [`Shape::with_plan`] takes.
 pub const SMALL_EXPONENT: u32 = 19;
 
-/// The most seats that [`Shape::new`], [`Shape::with_plan`] and [`Shape::for_keys`] take.
+/// The most seats that [`Shape::new`] and [`Shape::with_plan`] take.
 pub const FEW_SEATS: usize = 8;
 
 /// The most stripes that [`Shape::new`] and [`Shape::with_plan`] take.
 pub const FEW_STRIPES: usize = 8;
 
-/// The most keys that [`Shape::for_keys`] makes room for: the largest table has half as many slots
-/// again.
-pub const MOST_KEYS: usize = (1 << 20) / 3;
+/// The most keys that [`Shape::for_keys`] makes room for, 178,956,970: the largest table has half as
+/// many slots again.
+pub const MOST_KEYS: usize = (1 << 29) / 3;
 
-/// The most keys that [`Shape::for_many_keys`] makes room for, by the same rule: 178,956,970.
-pub const MANY_KEYS: usize = (1 << 29) / 3;
+/// The most keys for which [`Shape::for_keys`] makes two tables, 349,525. For more it makes tables
+/// that grow by larger steps.
+pub const FEW_KEYS: usize = (1 << 20) / 3;
 
 /// The most slots that are handed out for copying at once, where a shape asks for nothing else.
 const CHUNK: u16 = 8;
@@ -94,17 +94,11 @@ const CHUNK: u16 = 8;
 /// The most slots that a shape may ask for.
 const MAX_CHUNK: u32 = 1024;
 
-/// The fewest slots of the last of two tables, of which the first has an eighth.
-const SMALLEST_LAST: usize = 32;
-
 /// The most stripes of a shape for many seats. A size is the sum of all stripes, so more of them make
 /// it slower to tell.
 const SHARED_STRIPES: usize = 16;
 
-/// The reprobe limit of a shape for a number of keys.
-const SHORT_PATH: u32 = 18;
-
-/// The chunk of a shape for a number of keys.
+/// The chunk of a shape for few keys, and of one for keys that come and go.
 const LARGE_CHUNK: u32 = 64;
 
 /// The index of the top word, of any chain.
@@ -164,7 +158,8 @@ impl Model for Shape {
 
 impl Shape {
     /// Tables that double: `2^bits` slots in the first, and `generations` of them. `bits` is from 2
-    /// to 12, and the other numbers are from 1 to 8.
+    /// to 12, and the other numbers are from 1 to 8. This form is settled and stays as it is;
+    /// [`Shape::of_tables`] makes these tables too.
     pub fn new(
         bits: u32,
         generations: u32,
@@ -237,8 +232,8 @@ impl Shape {
     }
 
     /// A table of `2^e` slots for each exponent: 1 to 16 exponents from 2 to 19, none below the one
-    /// before it. There are 1 to 8 seats and stripes. [`Shape::large`] takes larger tables, and
-    /// [`Shape::with_seats`] and [`Shape::with_stripes`] take more seats and stripes.
+    /// before it. There are 1 to 8 seats and stripes. This form is settled and stays as it is;
+    /// [`Shape::of_tables`] makes these tables too, and larger ones.
     pub fn with_plan(exponents: &[u32], seats: usize, stripes: usize) -> Result<Shape, ShapeFault>
         ensures { result ≡ checked_plan exponents.now seats stripes }
     {
@@ -252,24 +247,6 @@ impl Shape {
             return Err(ShapeFault::Plan);
         }
         Self::seated(exponents, seats, stripes)
-    }
-
-    /// The shape for so many different keys, up to [`MOST_KEYS`], with a stripe for each seat. Its
-    /// last table has half as many slots again as there are keys, and more by the next power of
-    /// two. The table before it has an eighth of its slots, so a map that fills grows once. Paths
-    /// are kept short and chunks large, by the numbers that measured best.
-    pub fn for_keys(most: usize, seats: usize) -> Result<Shape, ShapeFault>
-        ensures shape { result ≡ checked_for_keys most seats }
-        ensures room { IfOk result (λ p. HasRoomFor p most) }
-    {
-        if most > MOST_KEYS {
-            return Err(ShapeFault::Keys);
-        }
-        let slots = (most + most / 2).max(SMALLEST_LAST);
-        let last = (slots - 1).ilog2() + 1;
-        Self::with_plan(&[last - 3, last], seats, seats)?
-            .with_reprobe_limit(SHORT_PATH)?
-            .with_chunk(LARGE_CHUNK)
     }
 
     /// The same with a reprobe limit: a table that isn't the last takes no new key past so many

@@ -1,6 +1,6 @@
 -- Shapes, as C asks for them.
 use Rattle.std.specs.Prelude.{ℕ, ℤ, nat_le, if◌then◌else◌, List, take, Result, Ok, Err}
-use Rattle.nb_core.specs.Plans.{Plan, checked_chunk, checked_large, checked_reprobes, checked_seats, checked_stripes}
+use Rattle.nb_core.specs.Plans.{Plan, checked_chunk, checked_reprobes, checked_seats, checked_stripes, checked_tables}
 use Rattle.nb_core.specs.declared.shapes.ShapeFault.{ShapeFault}
 use Rattle.nb_core.specs.declared.shapes.TheConstants.{MAX_GENERATIONS}
 use Rattle.nb_ffi.specs.Checking.{and_then}
@@ -11,7 +11,7 @@ use Rattle.nb_ffi.specs.declared.map_shape.MapShape.{MapShape}
 -- the plan of a shape with these exponents, or the first thing that is wrong with it
 abbrev pub checked_tuned : List ℕ → MapShape → Result Plan ShapeFault
 checked_tuned exponents shape =
-    and_then (checked_large exponents) (λ plan. and_then (checked_seats plan shape.seats) (λ seated.
+    and_then (checked_tables exponents) (λ plan. and_then (checked_seats plan shape.seats) (λ seated.
     and_then (checked_stripes seated shape.stripes) (λ striped.
     and_then (checked_reprobes striped shape.reprobes) (λ limited.
     checked_chunk limited shape.chunk))))

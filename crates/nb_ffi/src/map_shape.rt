@@ -36,7 +36,7 @@ impl MapShape {
     fn tuned(&self, exponents: &[u32]) -> Result<Shape, ShapeFault>
         ensures { result ≡ checked_tuned exponents.now self.now }
     {
-        Shape::large(exponents)?
+        Shape::of_tables(exponents)?
             .with_seats(self.seats as usize)?
             .with_stripes(self.stripes as usize)?
             .with_reprobe_limit(self.reprobes)?

@@ -182,7 +182,7 @@ pub const WORKERS: NumberWord = NumberWord {
 };
 
 /// `--keys N`: for how many different keys a map that grows has room at least, as many as
-/// `Shape::for_many_keys` takes. Unless it is given, the last table has 2^19 slots.
+/// `Shape::for_keys` takes. Unless it is given, the last table has 2^19 slots.
 pub const MANY_KEYS: NumberWord = NumberWord {
     name: "--keys",
     low: 1,

@@ -37,7 +37,7 @@ impl Options {
             3 * (self.now.keys + 2 * LINES) ≤ size_of shape (generations_of shape - 1)) }
     {
         let most = 2 * self.keys + 4 * LINES;
-        Ok(Shape::for_many_keys(most, self.workers)?)
+        Ok(Shape::for_keys(most, self.workers)?)
     }
 }
 

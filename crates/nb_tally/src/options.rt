@@ -36,7 +36,7 @@ impl Options {
     pub(crate) fn shape(&self) -> Result<Shape, Fault> {
         let slots = self.keys.saturating_mul(2).clamp(4, SLOTS_MAX);
         let exponent = slots.next_power_of_two().trailing_zeros();
-        let shape = Shape::large(&[exponent])?;
+        let shape = Shape::of_tables(&[exponent])?;
         Ok(shape.with_seats(self.workers)?.with_stripes(self.workers)?)
     }
 }

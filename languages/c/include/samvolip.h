@@ -104,9 +104,10 @@ extern "C" {
 #define SAMVOLIP_KEY_MAX (UINT64_MAX - 2)
 #define SAMVOLIP_VALUE_MAX ((UINT64_C(1) << 60) - 1)
 
-/* The most keys that samvolip_shape_for_keys and samvolip_shape_for_many_keys make room for. */
-#define SAMVOLIP_MOST_KEYS 349525
-#define SAMVOLIP_MANY_KEYS 178956970
+/* The most keys that samvolip_shape_for_keys makes room for, and the most for which it makes two
+   tables. */
+#define SAMVOLIP_MOST_KEYS 178956970
+#define SAMVOLIP_FEW_KEYS 349525
 
 /* For how many turns a write by name rests after others came before it. */
 #define SAMVOLIP_REST_TURNS 200
@@ -119,8 +120,8 @@ extern "C" {
 #define SAMVOLIP_MAX_EXPONENT 28
 #define SAMVOLIP_MAX_SLOTS (1 << 30)
 
-/* What samvolip_shape_for_many_keys goes by: the least exponent, by how much each exponent is above
-   the one before it, the most stripes, the reprobe limit and the chunk. */
+/* What samvolip_shape_for_keys goes by past SAMVOLIP_FEW_KEYS: the least exponent, by how much each
+   exponent is above the one before it, the most stripes, the reprobe limit and the chunk. */
 #define SAMVOLIP_MANY_FIRST_EXPONENT 4
 #define SAMVOLIP_MANY_STEP 8
 #define SAMVOLIP_MANY_STRIPES 16
@@ -281,10 +282,13 @@ typedef struct samvolip_header {
 
 /*
  * A shape with room to spare for `most` different keys, and for `seats` threads. The last table has
- * half as many slots again as there are keys, or more. There is one table before it, of an eighth
- * of that size. A put is refused as full only if other keys have all slots of the last table. The
- * map takes 16 bytes for each slot of both tables. For more than SAMVOLIP_MOST_KEYS there is no
- * such shape: samvolip_open refuses what this returns, with SAMVOLIP_E_TABLES.
+ * half as many slots again as there are keys, or more. A put is refused as full only if other keys
+ * have all slots of the last table. For up to SAMVOLIP_FEW_KEYS there is one table before it, of an
+ * eighth of that size, and a stripe for each seat. For more keys, each table before it has a 256th
+ * of the slots of the next one, as long as that is 16 slots at least, so that a map that has few
+ * keys stays in small tables; and there is a stripe for each seat, up to 16. The map takes 16 bytes
+ * for each slot of all tables. For more than SAMVOLIP_MOST_KEYS there is no such shape:
+ * samvolip_open refuses what this returns, with SAMVOLIP_E_TABLES.
  */
 static inline samvolip_shape samvolip_shape_for_keys(uint64_t most, unsigned seats)
 {
@@ -294,36 +298,19 @@ static inline samvolip_shape samvolip_shape_for_keys(uint64_t most, unsigned sea
         return shape;
     while ((UINT64_C(1) << last) < most + most / 2)
         last++;
-    shape.exponents[0] = last - 3;
-    shape.exponents[1] = last;
-    shape.tables = 2;
     shape.seats = seats;
-    shape.stripes = seats;
-    shape.reprobes = 18;
-    shape.chunk = 64;
-    return shape;
-}
-
-/*
- * The same for many keys. The last table is as large as that of samvolip_shape_for_keys. Each table
- * before it has a 256th of the slots of the next one, as long as that is 16 slots at least. So a map
- * that has few keys stays in small tables. There is a stripe for each seat, up to 16. A put is
- * refused as full only if other keys have all slots of the last table. The map takes 16 bytes for
- * each slot of all tables. For more than SAMVOLIP_MANY_KEYS there is no such shape: samvolip_open
- * refuses what this returns, with SAMVOLIP_E_TABLES.
- */
-static inline samvolip_shape samvolip_shape_for_many_keys(uint64_t most, unsigned seats)
-{
-    samvolip_shape shape = {{0}, 0, 0, 0, 0, 0};
-    uint32_t last = 5;
-    if (most > SAMVOLIP_MANY_KEYS)
+    if (most <= SAMVOLIP_FEW_KEYS) {
+        shape.exponents[0] = last - 3;
+        shape.exponents[1] = last;
+        shape.tables = 2;
+        shape.stripes = seats;
+        shape.reprobes = 18;
+        shape.chunk = 64;
         return shape;
-    while ((UINT64_C(1) << last) < most + most / 2)
-        last++;
+    }
     shape.tables = (last - SAMVOLIP_MANY_FIRST_EXPONENT) / SAMVOLIP_MANY_STEP + 1;
     for (uint32_t g = 0; g < shape.tables; g++)
         shape.exponents[g] = last - SAMVOLIP_MANY_STEP * (shape.tables - 1 - g);
-    shape.seats = seats;
     shape.stripes = seats < SAMVOLIP_MANY_STRIPES ? seats : SAMVOLIP_MANY_STRIPES;
     shape.reprobes = SAMVOLIP_MANY_REPROBES;
     shape.chunk = SAMVOLIP_MANY_CHUNK;

@@ -47,15 +47,15 @@ static void refuses_shapes(void)
     samvolip_shape most = samvolip_shape_for_keys(SAMVOLIP_MOST_KEYS + 1, 1);
     samvolip_seat seat = SAMVOLIP_SEAT_INIT;
     EXPECT(samvolip_open(&most, &seat) == SAMVOLIP_E_TABLES);
-    most = samvolip_shape_for_keys(SAMVOLIP_MOST_KEYS, 1);
-    EXPECT(most.tables == 2 && most.exponents[0] == 16 && most.exponents[1] == 19);
-    most = samvolip_shape_for_many_keys(SAMVOLIP_MANY_KEYS + 1, 1);
+    most = samvolip_shape_for_keys(UINT64_MAX, 1);
     EXPECT(samvolip_open(&most, &seat) == SAMVOLIP_E_TABLES);
-    most = samvolip_shape_for_many_keys(UINT64_MAX, 1);
-    EXPECT(samvolip_open(&most, &seat) == SAMVOLIP_E_TABLES);
-    most = samvolip_shape_for_many_keys(100, 0);
+    most = samvolip_shape_for_keys(100, 0);
     EXPECT(samvolip_open(&most, &seat) == SAMVOLIP_E_SEATS);
-    most = samvolip_shape_for_many_keys(100, 257);
+    most = samvolip_shape_for_keys(100, 257);
+    EXPECT(samvolip_open(&most, &seat) == SAMVOLIP_E_SEATS);
+    most = samvolip_shape_for_keys(SAMVOLIP_MOST_KEYS, 0);
+    EXPECT(samvolip_open(&most, &seat) == SAMVOLIP_E_SEATS);
+    most = samvolip_shape_for_keys(SAMVOLIP_MOST_KEYS, 257);
     EXPECT(samvolip_open(&most, &seat) == SAMVOLIP_E_SEATS);
     most = samvolip_shape_for_churn(0, 715827884, 1);
     EXPECT(samvolip_open(&most, &seat) == SAMVOLIP_E_TABLES);
@@ -72,29 +72,33 @@ static void refuses_shapes(void)
     EXPECT(seat.handle == NULL);
 }
 
-/* The plans that `Shape::for_many_keys` of nb_core makes by its test. */
-static void makes_shapes_for_many_keys(void)
+/* The plans that `Shape::for_keys` of nb_core makes by its tests. */
+static void makes_shapes_for_keys(void)
 {
     static const struct {
         uint64_t most;
         unsigned seats;
         samvolip_shape shape;
     } made[] = {
-        {0, 1, {{5}, 1, 1, 1, 18, 256}},
-        {21, 8, {{5}, 1, 8, 8, 18, 256}},
-        {22, 16, {{6}, 1, 16, 16, 18, 256}},
-        {341, 17, {{9}, 1, 17, 16, 18, 256}},
-        {342, 64, {{10}, 1, 64, 16, 18, 256}},
-        {1365, 64, {{11}, 1, 64, 16, 18, 256}},
-        {1366, 64, {{4, 12}, 2, 64, 16, 18, 256}},
-        {1000000, 64, {{5, 13, 21}, 3, 64, 16, 18, 256}},
+        {0, 1, {{2, 5}, 2, 1, 1, 18, 64}},
+        {21, 4, {{2, 5}, 2, 4, 4, 18, 64}},
+        {22, 4, {{3, 6}, 2, 4, 4, 18, 64}},
+        {1000, 8, {{8, 11}, 2, 8, 8, 18, 64}},
+        {65536, 9, {{14, 17}, 2, 9, 9, 18, 64}},
+        {174763, 17, {{15, 18}, 2, 17, 17, 18, 64}},
+        {174764, 100, {{16, 19}, 2, 100, 100, 18, 64}},
+        {SAMVOLIP_FEW_KEYS, 256, {{16, 19}, 2, 256, 256, 18, 64}},
+        {SAMVOLIP_FEW_KEYS + 1, 1, {{4, 12, 20}, 3, 1, 1, 18, 256}},
+        {699051, 8, {{4, 12, 20}, 3, 8, 8, 18, 256}},
+        {699052, 16, {{5, 13, 21}, 3, 16, 16, 18, 256}},
+        {1000000, 17, {{5, 13, 21}, 3, 17, 16, 18, 256}},
         {2796202, 1, {{6, 14, 22}, 3, 1, 1, 18, 256}},
         {44739243, 128, {{10, 18, 26}, 3, 128, 16, 18, 256}},
         {44739244, 128, {{11, 19, 27}, 3, 128, 16, 18, 256}},
-        {SAMVOLIP_MANY_KEYS, 256, {{4, 12, 20, 28}, 4, 256, 16, 18, 256}},
+        {SAMVOLIP_MOST_KEYS, 256, {{4, 12, 20, 28}, 4, 256, 16, 18, 256}},
     };
     for (size_t i = 0; i < sizeof made / sizeof *made; i++) {
-        samvolip_shape shape = samvolip_shape_for_many_keys(made[i].most, made[i].seats);
+        samvolip_shape shape = samvolip_shape_for_keys(made[i].most, made[i].seats);
         EXPECT(memcmp(&shape, &made[i].shape, sizeof shape) == 0);
     }
 }
@@ -219,10 +223,10 @@ static void has_room_for(uint64_t most, samvolip_shape shape)
 
 static void has_room_for_keys(void)
 {
-    for (uint64_t most = 0; most < 3000; most += 7) {
+    for (uint64_t most = 0; most < 3000; most += 7)
         has_room_for(most, samvolip_shape_for_keys(most, 1));
-        has_room_for(most, samvolip_shape_for_many_keys(most, 1));
-    }
+    has_room_for(SAMVOLIP_FEW_KEYS, samvolip_shape_for_keys(SAMVOLIP_FEW_KEYS, 1));
+    has_room_for(699051, samvolip_shape_for_keys(699051, 1));
 }
 
 static void puts_and_gets(samvolip_seat *seat)
@@ -846,7 +850,7 @@ int main(void)
     EXPECT(samvolip_version() == SAMVOLIP_VERSION && SAMVOLIP_VERSION == 0x000900);
     refuses_headers();
     refuses_shapes();
-    makes_shapes_for_many_keys();
+    makes_shapes_for_keys();
     makes_shapes_for_churn();
     keys_come_and_go();
     has_room_for_keys();

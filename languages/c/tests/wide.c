@@ -160,7 +160,7 @@ static void *fill(void *given)
 
 static void many_keys(void)
 {
-    const samvolip_shape shape = samvolip_shape_for_many_keys(keys, FILLERS);
+    const samvolip_shape shape = samvolip_shape_for_keys(keys, FILLERS);
     struct filler fillers[FILLERS] = {{SAMVOLIP_SEAT_INIT, 0}};
     pthread_t threads[FILLERS];
     EXPECT(samvolip_open(&shape, &fillers[0].seat) == SAMVOLIP_OK);

@@ -46,7 +46,7 @@ void run(unsigned threads_count, std::size_t top)
 {
     const std::vector<std::uint64_t> lines = read_lines();
     // a seat for each thread that counts
-    const auto shape = samvolip_shape_for_many_keys(lines.size(), threads_count);
+    const auto shape = samvolip_shape_for_keys(lines.size(), threads_count);
     maps all{samvolip::map::open(shape, samvolip::mixed).value(), samvolip::map::open(shape, samvolip::mixed).value()};
     std::vector<std::thread> threads;
     for (unsigned i = 0; i < threads_count; i++)

@@ -1117,12 +1117,6 @@ public:
         return open(samvolip_shape_for_keys(most, seats), how);
     }
 
-    /* The same for many keys, by samvolip_shape_for_many_keys. */
-    static result<map> for_many_keys(std::uint64_t most, unsigned seats, keys how = keys::plain)
-    {
-        return open(samvolip_shape_for_many_keys(most, seats), how);
-    }
-
     /* The same for keys that come and go, `live` of them at a time and `ever` in all, by
        samvolip_shape_for_churn. */
     static result<map> for_churn(std::uint64_t live, std::uint64_t ever, unsigned seats,

@@ -362,8 +362,9 @@ void mixes_every_key()
 void opens_and_moves()
 {
     EXPECT(samvolip::map::for_keys(SAMVOLIP_MOST_KEYS + 1, 1).error().why() == fault::tables);
-    EXPECT(samvolip::map::for_many_keys(1000, 0).error().why() == fault::seats);
-    EXPECT(samvolip::map::for_many_keys(1000, 257).error().message() == "number of seats out of range");
+    EXPECT(samvolip::map::for_keys(1000, 0).error().why() == fault::seats);
+    EXPECT(samvolip::map::for_keys(1000, 257).error().message() == "number of seats out of range");
+    EXPECT(samvolip::map::for_keys(SAMVOLIP_MOST_KEYS, 0).error().why() == fault::seats);
     EXPECT(samvolip::map::for_churn(1, UINT64_MAX, 1).error().why() == fault::tables);
     EXPECT(samvolip::map::for_churn(10, 100, 0).error().why() == fault::seats);
     EXPECT(samvolip::map::for_churn(10, 100, 17, samvolip::mixed)->seats() == 17);
@@ -373,7 +374,7 @@ void opens_and_moves()
     EXPECT(map.take_seat().error().why() == fault::empty && map.walk().error().why() == fault::empty);
     EXPECT(map.entries().error().why() == fault::empty);
     map.leave();
-    auto opened = samvolip::map::for_many_keys(1000, 256);
+    auto opened = samvolip::map::for_keys(1000, 256);
     EXPECT(opened && opened->seats() == 256);
     map = *std::move(opened);
     EXPECT(map.put(1, 1).has_value());

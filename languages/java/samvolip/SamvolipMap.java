@@ -26,12 +26,9 @@ public final class SamvolipMap extends LongMap implements AutoCloseable {
         freed = Cleaners.CLEANER.register(this, pool::release);
     }
 
-    /**
-     * A map with room to spare for so many different keys, and for so many threads at a time. Its shape is {@link Shape#forKeys} up to
-     * MOST_KEYS, and {@link Shape#forManyKeys} beyond.
-     */
+    /** A map with room to spare for so many different keys, and for so many threads at a time, by {@link Shape#forKeys}. */
     public static SamvolipMap forKeys(long most, int seats) {
-        return open(most <= Shape.MOST_KEYS ? Shape.forKeys(most, seats) : Shape.forManyKeys(most, seats));
+        return open(Shape.forKeys(most, seats));
     }
 
     /** A map of this shape. It takes all memory that it will have, outside of Java's heap. Refused by what is wrong with the shape. */

@@ -14,10 +14,13 @@ import java.util.Arrays;
  * @param chunk how many slots a thread copies at a time, a power of two from 4 to 1024
  */
 public record Shape(int[] exponents, int seats, int stripes, int reprobes, int chunk) {
-    /** The most keys that forKeys and forManyKeys make room for. */
-    public static final int MOST_KEYS = 349525, MANY_KEYS = 178956970;
+    /** The most keys that forKeys makes room for. */
+    public static final int MOST_KEYS = 178956970;
 
-    /** What forManyKeys makes: the least exponent, by how much each is above the one before it, the most stripes, the reprobe limit and the chunk. */
+    /** The most for which it makes two tables. */
+    private static final int FEW_KEYS = 349525;
+
+    /** What it makes for more: the least exponent, by how much each is above the one before it, the most stripes, the reprobe limit and the chunk. */
     private static final int MANY_FIRST_EXPONENT = 4, MANY_STEP = 8, MANY_STRIPES = 16, MANY_REPROBES = 18, MANY_CHUNK = 256;
 
     /** The least and the greatest exponent of what forChurn makes, and the most slots of all tables together. */
@@ -27,20 +30,15 @@ public record Shape(int[] exponents, int seats, int stripes, int reprobes, int c
         exponents = exponents.clone();
     }
 
-    /** Two tables with room to spare for so many different keys, 0 to MOST_KEYS. Refused as {@link Code#E_TABLES}. */
+    /**
+     * Tables with room to spare for so many different keys, 0 to MOST_KEYS. For up to 349,525 keys there are two, the first with an eighth of
+     * the slots of the last, and a stripe for each seat. For more, each table has a 256th of the slots of the next one, and there are no more
+     * than 16 stripes. Refused as {@link Code#E_TABLES}.
+     */
     public static Shape forKeys(long most, int seats) {
         if (most < 0 || most > MOST_KEYS) throw new Refused(Code.E_TABLES);
         int last = lastExponent(most);
-        return new Shape(new int[] {last - 3, last}, seats, seats, 18, 64);
-    }
-
-    /**
-     * Tables with room to spare for so many different keys, 0 to MANY_KEYS, each with a 256th of the slots of the next one, and no more than
-     * 16 stripes. Refused as {@link Code#E_TABLES}.
-     */
-    public static Shape forManyKeys(long most, int seats) {
-        if (most < 0 || most > MANY_KEYS) throw new Refused(Code.E_TABLES);
-        int last = lastExponent(most);
+        if (most <= FEW_KEYS) return new Shape(new int[] {last - 3, last}, seats, seats, 18, 64);
         int[] exponents = new int[(last - MANY_FIRST_EXPONENT) / MANY_STEP + 1];
         for (int g = 0; g < exponents.length; g++) exponents[g] = last - MANY_STEP * (exponents.length - 1 - g);
         return new Shape(exponents, seats, Math.min(seats, MANY_STRIPES), MANY_REPROBES, MANY_CHUNK);

@@ -344,14 +344,14 @@ public final class SamvolipTest {
     }
 
     private static void shapes() {
-        int[][] many = {{5}, {6}, {11}, {4, 12}, {5, 13, 21}, {10, 18, 26}, {11, 19, 27}, {4, 12, 20, 28}};
-        long[] most = {21, 22, 1365, 1366, 1000000, 44739243, 44739244, 178956970};
-        for (int i = 0; i < most.length; i++) expect(Arrays.equals(Shape.forManyKeys(most[i], 17).exponents(), many[i]));
-        expect(Shape.forManyKeys(1366, 17), new Shape(new int[] {4, 12}, 17, 16, 18, 256));
-        expect(Shape.forKeys(349525, 3), new Shape(new int[] {16, 19}, 3, 3, 18, 64));
-        expect(refused(() -> Shape.forKeys(1 << 20, 1)), Code.E_TABLES);
+        int[][] few = {{2, 5}, {2, 5}, {3, 6}, {16, 19}};
+        long[] fewest = {0, 21, 22, 349525};
+        for (int i = 0; i < few.length; i++) expect(Shape.forKeys(fewest[i], 17), new Shape(few[i], 17, 17, 18, 64));
+        int[][] many = {{4, 12, 20}, {4, 12, 20}, {5, 13, 21}, {5, 13, 21}, {10, 18, 26}, {11, 19, 27}, {4, 12, 20, 28}};
+        long[] most = {349526, 699051, 699052, 1000000, 44739243, 44739244, Shape.MOST_KEYS};
+        for (int i = 0; i < many.length; i++) expect(Shape.forKeys(most[i], 17), new Shape(many[i], 17, 16, 18, 256));
+        expect(refused(() -> Shape.forKeys(Shape.MOST_KEYS + 1, 1)), Code.E_TABLES);
         expect(refused(() -> Shape.forKeys(-1, 1)), Code.E_TABLES);
-        expect(refused(() -> Shape.forManyKeys(1 << 28, 1)), Code.E_TABLES);
         long[][] churn = {
             {0, 0, 9, 1}, {1, 341, 9, 1}, {1, 342, 9, 2}, {256, 2901, 9, 16}, {256, 2902, 10, 6}, {257, 682, 10, 1}, {10000, 1000000, 17, 13},
             {1 << 25, 380283563, 26, 16}, {0, 715827883, 26, 16},
@@ -370,7 +370,7 @@ public final class SamvolipTest {
             {Shape.of(1), Code.E_TABLES}, {Shape.of(1, new int[17]), Code.E_TABLES}, {Shape.of(1, 1), Code.E_EXPONENTS},
             {Shape.of(1, -1), Code.E_EXPONENTS}, {Shape.of(1, 5, 4), Code.E_FALLING}, {Shape.of(1, 2, 28, 28, 28, 28), Code.E_SLOTS},
             {Shape.of(0, 4), Code.E_SEATS}, {Shape.of(257, 4), Code.E_SEATS}, {Shape.of(-1, 4), Code.E_SEATS},
-            {Shape.forManyKeys(10, Integer.MIN_VALUE), Code.E_SEATS}, {good.withStripes(0), Code.E_STRIPES}, {good.withStripes(-1), Code.E_STRIPES},
+            {Shape.forKeys(10, Integer.MIN_VALUE), Code.E_SEATS}, {good.withStripes(0), Code.E_STRIPES}, {good.withStripes(-1), Code.E_STRIPES},
             {Shape.forChurn(10, 100, 257), Code.E_SEATS},
             {good.withReprobes(0), Code.E_REPROBES}, {good.withChunk(5), Code.E_CHUNK}, {good.withChunk(-4), Code.E_CHUNK},
         };
@@ -528,7 +528,7 @@ public final class SamvolipTest {
             expect(sorted(seat), kept);
 
             // a greater one, with more seats
-            seat.renew(Shape.forManyKeys(5000, 3));
+            seat.renew(Shape.forKeys(5000, 3));
             expect(sorted(seat), kept);
             Seat[] others = {seat.split(), seat.split()};
             expect(refused(seat::split), Code.E_NO_SEAT);
@@ -601,7 +601,7 @@ public final class SamvolipTest {
 
     private static void manySeats() {
         Seat[] seats = new Seat[256];
-        seats[0] = Seat.open(Shape.forManyKeys(5000, 256));
+        seats[0] = Seat.open(Shape.forKeys(5000, 256));
         for (int i = 1; i < 256; i++) seats[i] = seats[0].split();
         for (int i = 0; i < 256; i++) expect(seats[i].put(i, i), NONE);
         for (int i = 1; i < 256; i++) seats[0].join(seats[i]);

@@ -150,7 +150,7 @@ def parts():
 def longest():
     """The longest put of a map that grows, and a long way of a walk: they hold the interpreter as long."""
     most = 1_000_000
-    one, worst = Map.for_many_keys(most, seats=2), 0.0
+    one, worst = Map.for_keys(most, seats=2), 0.0
     for key in range(most):
         begun = time.thread_time()
         one.put(key, 1)

@@ -12,7 +12,6 @@ in the child, unless the parent had one thread alone.
 
 from .codes import (
     KEY_MAX,
-    MANY_KEYS,
     MOST_KEYS,
     VALUE_MAX,
     VERSION,
@@ -29,11 +28,10 @@ from .maps import SEATS, Map
 from .numbers import mix, unmix
 from .occupancy import Occupancy
 from .seats import Ended, Seat
-from .shapes import exponents_for_churn, exponents_for_keys, exponents_for_many_keys
+from .shapes import exponents_for_churn, exponents_for_keys
 
 __all__ = [
     "KEY_MAX",
-    "MANY_KEYS",
     "MOST_KEYS",
     "SEATS",
     "VALUE_MAX",
@@ -52,7 +50,6 @@ __all__ = [
     "Want",
     "exponents_for_churn",
     "exponents_for_keys",
-    "exponents_for_many_keys",
     "mix",
     "unmix",
 ]

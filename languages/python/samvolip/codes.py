@@ -7,10 +7,10 @@ import enum
 VERSION = 0x000900  # that of the samvolip.h that this package tells of
 KEY_MAX = 2**64 - 3
 VALUE_MAX = 2**60 - 1
-MOST_KEYS = 349525  # that exponents_for_keys makes room for
-MANY_KEYS = 178956970  # that exponents_for_many_keys makes room for
+MOST_KEYS = 178956970  # that exponents_for_keys makes room for
+FEW_KEYS = 349525  # the most for which it makes two tables
 
-# what a shape for many keys has: the least exponent, by how much each is above the one before it, the most stripes, the reprobe
+# what a shape for more keys has: the least exponent, by how much each is above the one before it, the most stripes, the reprobe
 # limit and the chunk
 MANY_FIRST_EXPONENT = 4
 MANY_STEP = 8

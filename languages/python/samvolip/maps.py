@@ -12,7 +12,7 @@ from . import library
 from .calls import Calls
 from .codes import Code, NoSeat, NotAllSeats, Refused, WalkCutOff
 from .seats import Ended, Seat
-from .shapes import plan_for_churn, plan_for_keys, plan_for_many_keys
+from .shapes import plan_for_churn, plan_for_keys
 
 SEATS = 64  # that a map has unless another number is asked for
 
@@ -131,20 +131,15 @@ class Map(Calls):
         chunk: SupportsIndex = 64,
         mixed: bool = True,
     ) -> None:
-        """A new map of tables with 2**e slots, 1 to 16 of them. Map.for_keys, Map.for_many_keys and Map.for_churn choose them."""
+        """A new map of tables with 2**e slots, 1 to 16 of them. Map.for_keys and Map.for_churn choose them."""
         super().__init__(mixed)
         self._local = _Local()
         self._pool = _Pool(Seat.open(exponents, seats, stripes, reprobes, chunk, mixed))
 
     @classmethod
     def for_keys(cls, most: SupportsIndex, seats: SupportsIndex = SEATS, mixed: bool = True) -> Map:
-        """A new map with room to spare for so many keys, MOST_KEYS at most, in two tables."""
-        return cls(seats=seats, mixed=mixed, **plan_for_keys(most))
-
-    @classmethod
-    def for_many_keys(cls, most: SupportsIndex, seats: SupportsIndex = SEATS, mixed: bool = True) -> Map:
-        """A new map with room to spare for so many keys, MANY_KEYS at most. It begins with a small table."""
-        return cls(seats=seats, mixed=mixed, **plan_for_many_keys(most, seats))
+        """A new map with room to spare for so many keys, MOST_KEYS at most: `exponents_for_keys` says in which tables."""
+        return cls(seats=seats, mixed=mixed, **plan_for_keys(most, seats))
 
     @classmethod
     def for_churn(cls, live: SupportsIndex, ever: SupportsIndex, seats: SupportsIndex = SEATS, mixed: bool = True) -> Map:

@@ -12,7 +12,7 @@ from . import library
 from .calls import Calls, T
 from .codes import Code, WalkCutOff, made
 from .numbers import key_of, number_of, word
-from .shapes import plan_for_churn, plan_for_keys, plan_for_many_keys, shape_of
+from .shapes import plan_for_churn, plan_for_keys, shape_of
 
 _maps = itertools.count(1)
 _ROOM = int(Code.E_ROOM)  # as a plain number
@@ -26,7 +26,7 @@ class Seat(Calls):
     """
 
     def __init__(self, handle: c_void_p, number_of_map: int, mixed: bool, count: int, pool: Any = None) -> None:
-        """For the package's own use: `open`, `for_keys`, `for_many_keys`, `for_churn`, `split` and `Map.seat` make seats."""
+        """For the package's own use: `open`, `for_keys`, `for_churn`, `split` and `Map.seat` make seats."""
         super().__init__(mixed)
         self.count = count  # how many seats the handle has: its own, and those in reserve
         self._handle = handle
@@ -56,13 +56,8 @@ class Seat(Calls):
 
     @classmethod
     def for_keys(cls, most: SupportsIndex, seats: SupportsIndex = 1, mixed: bool = True) -> Seat:
-        """A new map with room to spare for so many keys, MOST_KEYS at most, in two tables."""
-        return cls.open(seats=seats, mixed=mixed, **plan_for_keys(most))
-
-    @classmethod
-    def for_many_keys(cls, most: SupportsIndex, seats: SupportsIndex = 1, mixed: bool = True) -> Seat:
-        """A new map with room to spare for so many keys, MANY_KEYS at most. It begins with a small table."""
-        return cls.open(seats=seats, mixed=mixed, **plan_for_many_keys(most, seats))
+        """A new map with room to spare for so many keys, MOST_KEYS at most: `exponents_for_keys` says in which tables."""
+        return cls.open(seats=seats, mixed=mixed, **plan_for_keys(most, seats))
 
     @classmethod
     def for_churn(cls, live: SupportsIndex, ever: SupportsIndex, seats: SupportsIndex = 1, mixed: bool = True) -> Seat:

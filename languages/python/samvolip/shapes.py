@@ -9,9 +9,9 @@ from . import library
 from .codes import (
     CHURN_GREATEST,
     CHURN_LEAST,
+    FEW_KEYS,
     MANY_CHUNK,
     MANY_FIRST_EXPONENT,
-    MANY_KEYS,
     MANY_REPROBES,
     MANY_STEP,
     MANY_STRIPES,
@@ -28,20 +28,17 @@ def _last_exponent(most: int) -> int:
 
 
 def exponents_for_keys(most: SupportsIndex) -> list[int]:
-    """Two tables with room to spare for so many keys, MOST_KEYS at most."""
+    """Tables with room to spare for so many keys, MOST_KEYS at most.
+
+    For up to FEW_KEYS there are two, the first with an eighth of the slots of the last. For more keys each table has a 256th of the
+    slots of the next one.
+    """
     most = word(most)
     if most > MOST_KEYS:
         raise Refused(Code.E_TABLES, f"no such shape for more than {MOST_KEYS} keys")
     last = _last_exponent(most)
-    return [last - 3, last]
-
-
-def exponents_for_many_keys(most: SupportsIndex) -> list[int]:
-    """Tables with room to spare for so many keys, MANY_KEYS at most, each with a 256th of the slots of the next one."""
-    most = word(most)
-    if most > MANY_KEYS:
-        raise Refused(Code.E_TABLES, f"no such shape for more than {MANY_KEYS} keys")
-    last = _last_exponent(most)
+    if most <= FEW_KEYS:
+        return [last - 3, last]
     return list(range(last, MANY_FIRST_EXPONENT - 1, -MANY_STEP))[::-1]
 
 
@@ -81,15 +78,13 @@ def shape_of(
     return shape
 
 
-def plan_for_keys(most: SupportsIndex) -> dict[str, Any]:
+def plan_for_keys(most: SupportsIndex, seats: SupportsIndex) -> dict[str, Any]:
     """What a map for so many keys, MOST_KEYS at most, is opened with."""
-    return {"exponents": exponents_for_keys(most), "reprobes": 18, "chunk": 64}
-
-
-def plan_for_many_keys(most: SupportsIndex, seats: SupportsIndex) -> dict[str, Any]:
-    """What a map for so many keys, MANY_KEYS at most, is opened with."""
+    exponents = exponents_for_keys(most)
+    if word(most) <= FEW_KEYS:
+        return {"exponents": exponents, "reprobes": 18, "chunk": 64}
     stripes = min(word(seats, 32), MANY_STRIPES)
-    return {"exponents": exponents_for_many_keys(most), "stripes": stripes, "reprobes": MANY_REPROBES, "chunk": MANY_CHUNK}
+    return {"exponents": exponents, "stripes": stripes, "reprobes": MANY_REPROBES, "chunk": MANY_CHUNK}
 
 
 def plan_for_churn(live: SupportsIndex, ever: SupportsIndex, seats: SupportsIndex) -> dict[str, Any]:

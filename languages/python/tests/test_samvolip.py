@@ -21,6 +21,7 @@ import time
 import samvolip
 from samvolip import (
     KEY_MAX,
+    MOST_KEYS,
     VALUE_MAX,
     Change,
     Code,
@@ -34,10 +35,10 @@ from samvolip import (
     Want,
     exponents_for_keys,
     exponents_for_churn,
-    exponents_for_many_keys,
     mix,
     unmix,
 )
+from samvolip.shapes import plan_for_keys
 
 PAGE = os.path.join(os.path.dirname(os.path.abspath(__file__)), "../../../docs/python.md")
 
@@ -162,8 +163,7 @@ def calls():
 
 
 def broken_shapes():
-    assert refused(exponents_for_keys, 2**20) == Code.E_TABLES
-    assert refused(exponents_for_many_keys, 2**28) == Code.E_TABLES
+    assert refused(exponents_for_keys, MOST_KEYS + 1) == refused(exponents_for_keys, 2**64 - 1) == Code.E_TABLES
     for live, ever in [(0, 715827884), (2**25, 380283564), (2**25 + 1, 0), (2**64 - 1, 1), (1, 2**64 - 1)]:
         assert refused(exponents_for_churn, live, ever) == Code.E_TABLES
     assert told(exponents_for_churn, -1, 1) == told(exponents_for_churn, 1, -1) == "-1 isn't from 0 to 2^64 - 1"
@@ -187,13 +187,14 @@ def broken_shapes():
         wrong = "4294967297 isn't from 0 to 2^32 - 1"
         assert told(opened, [2**32 + 1]) == told(opened, [4], 2**32 + 1) == told(opened, [4], 1, 2**32 + 1) == wrong
         assert told(opened, [4], 1, 1, 2**32 + 1) == told(opened, [4], 1, 1, 1, 2**32 + 1) == wrong
-    for planned in (Seat.for_keys, Seat.for_many_keys, Map.for_keys, Map.for_many_keys):
+    for planned in (Seat.for_keys, Map.for_keys):
         assert told(planned, -1) == "-1 isn't from 0 to 2^64 - 1"
         assert told(planned, 10, -1) == "-1 isn't from 0 to 2^32 - 1"
         assert told(planned, 10, 2**32 + 1) == "4294967297 isn't from 0 to 2^32 - 1"
         assert "integer" in told(planned, 10.0)
         assert refused(planned, 2**30) == Code.E_TABLES
-        assert refused(planned, 10, 0) == Code.E_SEATS
+        assert refused(planned, 10, 0) == refused(planned, 10, 257) == Code.E_SEATS
+        assert refused(planned, MOST_KEYS, 0) == refused(planned, MOST_KEYS, 257) == Code.E_SEATS
 
 
 def grows():
@@ -244,17 +245,18 @@ def joins():
 def shapes():
     for most, exponents in [(0, [2, 5]), (21, [2, 5]), (22, [3, 6]), (349525, [16, 19])]:
         assert exponents_for_keys(most) == exponents
+        assert plan_for_keys(most, 17) == {"exponents": exponents, "reprobes": 18, "chunk": 64}
     for most, exponents in [
-        (21, [5]),
-        (22, [6]),
-        (1365, [11]),
-        (1366, [4, 12]),
+        (349526, [4, 12, 20]),
+        (699051, [4, 12, 20]),
+        (699052, [5, 13, 21]),
         (1000000, [5, 13, 21]),
         (44739243, [10, 18, 26]),
         (44739244, [11, 19, 27]),
-        (178956970, [4, 12, 20, 28]),
+        (MOST_KEYS, [4, 12, 20, 28]),
     ]:
-        assert exponents_for_many_keys(most) == exponents
+        assert exponents_for_keys(most) == exponents
+        assert plan_for_keys(most, 17) == {"exponents": exponents, "stripes": 16, "reprobes": 18, "chunk": 256}
     for live, ever, exponents in [
         (0, 0, [9]),
         (1, 341, [9]),
@@ -285,7 +287,7 @@ def churns():
 
 
 def many_seats():
-    first = Seat.for_many_keys(5000, seats=256)
+    first = Seat.for_keys(5000, seats=256)
     seats = [first.split() for _ in range(255)]
     for number, seat in enumerate(seats):
         seat.put(number, number)
@@ -396,7 +398,7 @@ def renews():
         assert told(next, walk) == "the seat has renewed its map" and told(next, walk, None) is None
         assert seat.put(1000, 0) is None and seat.remove(1000) == 0 and seat.count == 2
         assert sorted(seat.items()) == sorted(seat.entries()) == kept
-        seat.renew(exponents_for_many_keys(5000), seats=3, stripes=2, reprobes=10, chunk=4)
+        seat.renew(exponents_for_keys(5000), seats=3, stripes=2, reprobes=10, chunk=4)
         others = [seat.split(), seat.split()]
         assert refused(seat.split) == Code.E_NO_SEAT and seat.count == 1
         run_all([threading.Thread(target=work, args=(one, number)) for number, one in enumerate(others)])

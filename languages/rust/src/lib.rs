@@ -55,4 +55,4 @@ pub use map::{Iter, Map, SeatGuard};
 pub use occupancy::Occupancy;
 pub use seat::{Change, Reply, Seat, Walk, Want};
 pub use shape::Shape;
-pub use sys::{KEY_MAX, MANY_KEYS, MOST_KEYS, VALUE_MAX};
+pub use sys::{KEY_MAX, MOST_KEYS, VALUE_MAX};

@@ -2,7 +2,7 @@
 
 use crate::pool::Pool;
 use crate::seat::update_from;
-use crate::{sys, Change, Ended, Fault, Keys, Occupancy, Reply, Seat, Shape, Unclosed, Want, MOST_KEYS};
+use crate::{sys, Change, Ended, Fault, Keys, Occupancy, Reply, Seat, Shape, Unclosed, Want};
 use std::fmt;
 use std::iter::FusedIterator;
 use std::marker::PhantomData;
@@ -34,14 +34,10 @@ pub struct Map {
 }
 
 impl Map {
-    /// A map with room to spare for so many different keys, and for so many threads at a time. Its shape is
-    /// [`Shape::for_keys`] up to [`MOST_KEYS`], and [`Shape::for_many_keys`] beyond. Refused as [`open`](Map::open).
+    /// A map with room to spare for so many different keys, and for so many threads at a time. Its shape is that of
+    /// [`Shape::for_keys`]. Refused as [`open`](Map::open).
     pub fn for_keys(most: u64, seats: u32) -> Result<Map, Fault> {
-        let shape = match most {
-            0..=MOST_KEYS => Shape::for_keys(most, seats),
-            _ => Shape::for_many_keys(most, seats),
-        };
-        Map::open(&shape.ok_or(Fault::Tables)?)
+        Map::open(&Shape::for_keys(most, seats).ok_or(Fault::Tables)?)
     }
 
     /// A map of this shape. It takes all memory that it will have. Refused by what is wrong with the shape;

@@ -30,28 +30,25 @@ pub struct Shape {
 }
 
 impl Shape {
-    /// Two tables with room to spare for so many different keys. `None` for more than [`MOST_KEYS`](crate::MOST_KEYS).
+    /// Tables with room to spare for so many different keys. `None` for more than [`MOST_KEYS`](crate::MOST_KEYS), which is
+    /// 178,956,970.
+    ///
+    /// For up to 349,525 keys there are two tables, the first with an eighth of the slots of the last, and a stripe for each
+    /// seat. For more, each table has a 256th of the slots of the next one, and there are no more than 16 stripes.
     pub fn for_keys(most: u64, seats: u32) -> Option<Shape> {
         if most > sys::MOST_KEYS {
             return None;
         }
         let last = last_exponent(most);
-        Some(Shape {
-            exponents: vec![last - 3, last],
-            seats,
-            stripes: seats,
-            reprobes: 18,
-            chunk: 64,
-        })
-    }
-
-    /// Tables with room to spare for so many different keys, each with a 256th of the slots of the next one, and no more
-    /// than 16 stripes. `None` for more than [`MANY_KEYS`](crate::MANY_KEYS).
-    pub fn for_many_keys(most: u64, seats: u32) -> Option<Shape> {
-        if most > sys::MANY_KEYS {
-            return None;
+        if most <= sys::FEW_KEYS {
+            return Some(Shape {
+                exponents: vec![last - 3, last],
+                seats,
+                stripes: seats,
+                reprobes: 18,
+                chunk: 64,
+            });
         }
-        let last = last_exponent(most);
         let below = (last - sys::MANY_FIRST_EXPONENT) / sys::MANY_STEP;
         Some(Shape {
             exponents: (0..=below).rev().map(|g| last - sys::MANY_STEP * g).collect(),

@@ -15,12 +15,12 @@ pub const KEY_MAX: u64 = u64::MAX - 2;
 pub const VALUE_MAX: u64 = (1 << 60) - 1;
 
 /// The most keys that [`Shape::for_keys`](crate::Shape::for_keys) makes room for.
-pub const MOST_KEYS: u64 = 349_525;
-/// The most keys that [`Shape::for_many_keys`](crate::Shape::for_many_keys) makes room for.
-pub const MANY_KEYS: u64 = 178_956_970;
+pub const MOST_KEYS: u64 = 178_956_970;
+/// The most for which it makes two tables.
+pub const FEW_KEYS: u64 = 349_525;
 
-/// What [`Shape::for_many_keys`](crate::Shape::for_many_keys) makes: the least exponent, by how much
-/// each one is above the one before it, the most stripes, the reprobe limit and the chunk.
+/// What it makes for more: the least exponent, by how much each one is above the one before it, the
+/// most stripes, the reprobe limit and the chunk.
 pub const MANY_FIRST_EXPONENT: u32 = 4;
 pub const MANY_STEP: u32 = 8;
 pub const MANY_STRIPES: u32 = 16;

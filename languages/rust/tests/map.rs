@@ -1,6 +1,6 @@
 //! A map that any thread may call: eight threads and growth, seats that come and go with threads, and each call.
 
-use samvolip::{Change, Ended, Fault, Keys, Map, Seat, Shape, Want, KEY_MAX, MANY_KEYS, VALUE_MAX};
+use samvolip::{Change, Ended, Fault, Keys, Map, Seat, Shape, Want, KEY_MAX, MOST_KEYS, VALUE_MAX};
 use std::collections::BTreeMap;
 use std::error::Error;
 use std::mem;
@@ -367,7 +367,7 @@ fn each_call() {
     assert_eq!(map.size_estimate(), Ok(11));
     let full = map.try_extend((200..300).map(|key| (key, 0)));
     assert_eq!(full, Err(Fault::Full));
-    assert_eq!(Map::for_keys(MANY_KEYS + 1, 1).unwrap_err(), Fault::Tables);
+    assert_eq!(Map::for_keys(MOST_KEYS + 1, 1).unwrap_err(), Fault::Tables);
     assert_eq!(Map::for_keys(10, 257).unwrap_err(), Fault::Seats);
 }
 

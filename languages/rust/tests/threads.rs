@@ -1,6 +1,6 @@
 //! Seats that the program holds itself: four threads, each call, and refusals.
 
-use samvolip::{Change, Fault, Keys, Reply, Seat, Shape, Want, KEY_MAX, VALUE_MAX};
+use samvolip::{Change, Fault, Keys, Reply, Seat, Shape, Want, KEY_MAX, MOST_KEYS, VALUE_MAX};
 use std::error::Error;
 use std::thread;
 
@@ -66,8 +66,8 @@ fn calls_and_refusals() {
     assert_eq!(refused.to_string(), "a seat of another map");
     assert_eq!(refused.source().unwrap().to_string(), "a seat of another map");
     assert_eq!(refused.seat.close().unwrap().size(), 0);
-    assert!(Shape::for_keys(1 << 20, 1).is_none());
-    assert!(Shape::for_many_keys(1 << 28, 1).is_none());
+    assert!(Shape::for_keys(MOST_KEYS + 1, 1).is_none());
+    assert!(Shape::for_keys(u64::MAX, 1).is_none());
     assert!(Shape::for_churn((1 << 25) + 1, 0, 1).is_none());
     assert!(Shape::for_churn(0, 715_827_884, 1).is_none());
     assert!(Shape::for_churn(u64::MAX, u64::MAX, 1).is_none());
@@ -85,19 +85,21 @@ fn shapes_for_keys() {
         (22, vec![3, 6]),
         (349_525, vec![16, 19]),
     ] {
-        assert_eq!(Shape::for_keys(most, 3).unwrap().exponents, exponents, "for {most} keys");
+        let shape = Shape::for_keys(most, 17).unwrap();
+        assert_eq!(shape.exponents, exponents, "for {most} keys");
+        assert_eq!((shape.seats, shape.stripes), (17, 17));
+        assert_eq!((shape.reprobes, shape.chunk), (18, 64));
     }
     for (most, exponents) in [
-        (21, vec![5]),
-        (22, vec![6]),
-        (1365, vec![11]),
-        (1366, vec![4, 12]),
+        (349_526, vec![4, 12, 20]),
+        (699_051, vec![4, 12, 20]),
+        (699_052, vec![5, 13, 21]),
         (1_000_000, vec![5, 13, 21]),
         (44_739_243, vec![10, 18, 26]),
         (44_739_244, vec![11, 19, 27]),
         (178_956_970, vec![4, 12, 20, 28]),
     ] {
-        let shape = Shape::for_many_keys(most, 17).unwrap();
+        let shape = Shape::for_keys(most, 17).unwrap();
         assert_eq!(shape.exponents, exponents, "for {most} keys");
         assert_eq!((shape.seats, shape.stripes), (17, 16));
         assert_eq!((shape.reprobes, shape.chunk), (18, 256));
@@ -135,7 +137,7 @@ fn shapes_for_churn() {
 
 #[test]
 fn many_seats() {
-    let mut first = Seat::open(&Shape::for_many_keys(5000, 256).unwrap()).unwrap();
+    let mut first = Seat::open(&Shape::for_keys(5000, 256).unwrap()).unwrap();
     let mut seats: Vec<Seat> = (0..255).map(|_| first.split().unwrap()).collect();
     assert_eq!(first.split().err(), Some(Fault::NoSeat));
     for (number, seat) in seats.iter_mut().enumerate() {
@@ -258,7 +260,7 @@ fn renewed() {
         assert_eq!(entries(&mut seat), kept);
 
         // a greater one, with more seats
-        seat.renew(&Shape::for_many_keys(5000, 3).unwrap()).unwrap();
+        seat.renew(&Shape::for_keys(5000, 3).unwrap()).unwrap();
         assert_eq!(entries(&mut seat), kept);
         let mut others = [seat.split().unwrap(), seat.split().unwrap()];
         assert_eq!(seat.split().err(), Some(Fault::NoSeat));

@@ -19,7 +19,7 @@ use std::thread::Threads;
 #[test]
 fn tallies(rt: HostRuntime) {
     let (key, once) = entry(&rt, 7, 1);
-    let handle = opened(&rt, rt.alloc(), Shape::new(4, 4, 4, 1));
+    let handle = opened(&rt, rt.alloc(), Shape::for_keys(1000, 4));
     let mut handles = parted(&rt, rt.alloc(), handle);
     thread::for_each_mut(
         &rt,

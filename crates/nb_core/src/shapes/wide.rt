@@ -1,48 +1,22 @@
-//! Shapes of larger tables, of more seats and stripes, and for many keys.
-ghost use Rattle.std.specs.Prelude.{◌≡◌, ◌≤◌, All, IfOk, length};
-ghost use Rattle.nb_core.specs.declared.shapes.TheConstants.{
-  MAX_EXPONENT,
-  MAX_GENERATIONS,
-  MAX_SEATS,
-  MAX_STRIPES,
-};
-ghost use Rattle.nb_core.specs.Plans.{
-  HasRoomFor,
-  checked_for_many_keys,
-  checked_large,
-  checked_seats,
-  checked_stripes,
-  plan,
-  slots_in,
-  steps_down,
-  tables_for,
-};
+//! Shapes of any tables, and of any number of seats and stripes.
+ghost use Rattle.std.specs.Prelude.{◌≡◌, ◌≤◌, All, length};
+ghost use Rattle.nb_core.specs.declared.shapes.TheConstants.{MAX_EXPONENT, MAX_GENERATIONS};
+ghost use Rattle.nb_core.specs.Plans.{checked_seats, checked_stripes, checked_tables, slots_in};
 
-use super::{
-    MANY_KEYS, MAX_EXPONENT, MAX_GENERATIONS, MAX_SEATS, MAX_SLOTS, MAX_STRIPES, SHARED_STRIPES,
-    SMALLEST_LAST, Shape, ShapeFault,
-};
-
-/// The least exponent of the first table of a shape for many keys.
-const FIRST_EXPONENT: u32 = 4;
-
-/// By how much each exponent of a shape for many keys is above the one before it.
-const STEP: u32 = 8;
-
-/// The reprobe limit of a shape for many keys.
-const MANY_REPROBES: u32 = 18;
-
-/// The chunk of a shape for many keys.
-const MANY_CHUNK: u32 = 256;
+use super::{MAX_EXPONENT, MAX_GENERATIONS, MAX_SEATS, MAX_SLOTS, MAX_STRIPES, Shape, ShapeFault};
 
 impl Shape {
-    /// A table of `2^e` slots for each exponent, with one seat and one stripe: 1 to 16 exponents
-    /// from 2 to 28, none below the one before it, and at most [`MAX_SLOTS`] slots in all. The
-    /// first of these that is wrong is the fault: [`ShapeFault::Generations`], `Bits`, `Plan` or
-    /// `Slots`. A map takes 16 bytes for each slot, all when it is made, and twice as much while it
-    /// is made.
-    pub fn large(exponents: &[u32]) -> Result<Shape, ShapeFault>
-        ensures { result ≡ checked_large exponents.now }
+    /// A table of `2^e` slots for each exponent: 1 to 16 exponents from 2 to 28, none below the one
+    /// before it, and at most [`MAX_SLOTS`] slots in all. The first of these that is wrong is the
+    /// fault: [`ShapeFault::Generations`], `Bits`, `Plan` or `Slots`. A map takes 16 bytes for each
+    /// slot, all when it is made, and twice as much while it is made.
+    ///
+    /// There is one seat and one stripe, until [`with_seats`](Shape::with_seats) and
+    /// [`with_stripes`](Shape::with_stripes) ask for more;
+    /// [`with_reprobe_limit`](Shape::with_reprobe_limit) and [`with_chunk`](Shape::with_chunk) tune
+    /// how a map grows.
+    pub fn of_tables(exponents: &[u32]) -> Result<Shape, ShapeFault>
+        ensures { result ≡ checked_tables exponents.now }
     {
         if !(1..=MAX_GENERATIONS).contains(&exponents.len()) {
             return Err(ShapeFault::Generations);
@@ -86,44 +60,6 @@ impl Shape {
             stripes: stripes as u16,
             ..self
         })
-    }
-
-    /// The shape for so many different keys, up to [`MANY_KEYS`], and 1 to [`MAX_SEATS`] seats;
-    /// other numbers are [`ShapeFault::Keys`], and then [`ShapeFault::Seats`]. Its last table has
-    /// half as many slots again as there are keys, and more by the next power of two. Each table
-    /// below has a 256th of the slots of the next one, down to 16 at least, so that a map with few
-    /// keys stays small in the cache. There is a stripe for each seat, but no more than 16.
-    pub fn for_many_keys(most: usize, seats: usize) -> Result<Shape, ShapeFault>
-        ensures shape { result ≡ checked_for_many_keys most seats }
-        ensures room { IfOk result (λ p. HasRoomFor p most) }
-    {
-        if most > MANY_KEYS {
-            return Err(ShapeFault::Keys);
-        }
-        if seats < 1 || seats > MAX_SEATS {
-            return Err(ShapeFault::Seats);
-        }
-        let slots = (most + most / 2).max(SMALLEST_LAST);
-        let last = (slots - 1).ilog2() + 1;
-        Self::stepped(last, seats as u16, seats.min(SHARED_STRIPES) as u16)
-            .with_reprobe_limit(MANY_REPROBES)?
-            .with_chunk(MANY_CHUNK)
-    }
-
-    /// The shape of tables of which the last has `2^last` slots, and each one before it `2^STEP`
-    /// times fewer than the next, as many as there are.
-    fn stepped(last: u32, seats: u16, stripes: u16) -> Shape
-        requires last { (FIRST_EXPONENT ≤ last) × (last ≤ MAX_EXPONENT) }
-        requires seats { (1 ≤ seats) × (seats ≤ MAX_SEATS) }
-        requires stripes { (1 ≤ stripes) × (stripes ≤ MAX_STRIPES) }
-        ensures { result ≡ plan (steps_down (tables_for last) last) seats stripes }
-    {
-        let tables = (last - FIRST_EXPONENT) / STEP + 1;
-        let mut exponents = [0; MAX_GENERATIONS];
-        for g in 0..tables {
-            exponents[g as usize] = last - STEP * (tables - 1 - g);
-        }
-        Self::laid_out(&exponents[..tables as usize], seats, stripes)
     }
 }
 

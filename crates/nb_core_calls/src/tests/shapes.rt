@@ -1,6 +1,6 @@
 //! Shapes and their places.
 use super::wide::{made, told_of};
-use nb_core::{HeaderWord, MOST_KEYS, Shape, ShapeFault};
+use nb_core::{FEW_KEYS, HeaderWord, Shape, ShapeFault};
 use std::process::Abort;
 use std::test::Fail;
 
@@ -178,31 +178,20 @@ fn chunks(rt: HostRuntime) -> Result<(), Fail> {
 }
 
 #[test]
-fn shapes_for_keys(rt: HostRuntime) {
-    for (most, first, last) in [
-        (0, 2, 5),
-        (1, 2, 5),
-        (21, 2, 5),
-        (22, 3, 6),
-        (43, 3, 6),
-        (1000, 8, 11),
-        (65536, 14, 17),
-        (174763, 15, 18),
-        (174764, 16, 19),
-        (MOST_KEYS, 16, 19),
+fn shapes_for_few_keys(rt: HostRuntime) {
+    for (most, seats, first, last) in [
+        (0, 1, 2, 5),
+        (1, 4, 2, 5),
+        (21, 4, 2, 5),
+        (22, 4, 3, 6),
+        (43, 4, 3, 6),
+        (1000, 8, 8, 11),
+        (65536, 9, 14, 17),
+        (174763, 17, 15, 18),
+        (174764, 100, 16, 19),
+        (FEW_KEYS, 256, 16, 19),
     ] {
-        let due = made(&[first, last], 4, 4, 18, 64);
-        assert!(rt; Shape::for_keys(most, 4) == due, "for {most} keys");
-    }
-    for (most, seats, fault) in [
-        (MOST_KEYS + 1, 0, ShapeFault::Keys),
-        (usize::MAX, 1, ShapeFault::Keys),
-        (100, 0, ShapeFault::Seats),
-        (100, 9, ShapeFault::Seats),
-    ] {
-        assert!(rt;
-            Shape::for_keys(most, seats) == Err(fault),
-            "for {most} keys"
-        );
+        let due = made(&[first, last], seats, seats, 18, 64);
+        assert!(rt; Shape::for_keys(most, seats) == due, "for {most} keys");
     }
 }

@@ -1,6 +1,6 @@
 //! Shapes of large tables and of many seats.
 use nb_core::{
-    HeaderWord, MANY_KEYS, MAX_SEATS, MAX_SLOTS, MAX_STRIPES, MOST_KEYS, Shape, ShapeFault,
+    FEW_KEYS, HeaderWord, MAX_SEATS, MAX_SLOTS, MAX_STRIPES, MOST_KEYS, Shape, ShapeFault,
 };
 use std::test::Fail;
 
@@ -12,7 +12,7 @@ pub fn made(
     reprobes: u32,
     chunk: u32,
 ) -> Result<Shape, ShapeFault> {
-    Shape::large(exponents)?
+    Shape::of_tables(exponents)?
         .with_seats(seats)?
         .with_stripes(stripes)?
         .with_reprobe_limit(reprobes)?
@@ -29,7 +29,7 @@ pub fn told_of(shape: &Shape, g: u32) -> Option<(usize, usize, usize, usize)> {
 }
 
 #[test]
-fn large_refusals(rt: HostRuntime) {
+fn tables_refusals(rt: HostRuntime) {
     let rows: [(&[u32], ShapeFault); 9] = [
         (&[], ShapeFault::Generations),
         (&[1; 17], ShapeFault::Generations),
@@ -42,17 +42,17 @@ fn large_refusals(rt: HostRuntime) {
         (&[28; 16], ShapeFault::Slots),
     ];
     for (exponents, fault) in rows {
-        assert!(rt; Shape::large(exponents) == Err(fault), "{exponents:?}");
+        assert!(rt; Shape::of_tables(exponents) == Err(fault), "{exponents:?}");
     }
 }
 
 #[test]
 fn as_many_slots_as_there_may_be(rt: HostRuntime) -> Result<(), Fail> {
-    let four = Shape::large(&[28; 4])?;
+    let four = Shape::of_tables(&[28; 4])?;
     assert!(rt; four.words() == 1 + 3 * 4 + 2 * MAX_SLOTS);
     assert!(rt; four.size_of(3) == 1 << 28);
     assert!(rt; four.value_place(3, (1 << 28) - 1) == 3 * 4 + 2 * MAX_SLOTS);
-    let sixteen = Shape::large(&[26; 16])?;
+    let sixteen = Shape::of_tables(&[26; 16])?;
     assert!(rt; sixteen.words() == 1 + 3 * 16 + 2 * MAX_SLOTS);
     let next = sixteen.header_word_place(15, HeaderWord::Next);
     assert!(rt; next == 1 + 15 * (3 + (2 << 26)));
@@ -62,18 +62,18 @@ fn as_many_slots_as_there_may_be(rt: HostRuntime) -> Result<(), Fail> {
 #[test]
 fn limits_of_shapes(rt: HostRuntime) {
     assert!(rt; (MAX_SLOTS, MAX_SEATS, MAX_STRIPES) == (1_073_741_824, 256, 256));
-    assert!(rt; (MOST_KEYS, MANY_KEYS) == (349_525, 178_956_970));
+    assert!(rt; (FEW_KEYS, MOST_KEYS) == (349_525, 178_956_970));
 }
 
-/// The exponents of four large tables, which a plan may have too.
+/// The exponents of four tables, which a settled plan may have too.
 const FOUR: [u32; 4] = [4, 8, 12, 16];
 
 #[test]
-fn large_plans(rt: HostRuntime) {
+fn plans_of_tables(rt: HostRuntime) {
     for (seats, stripes) in [(1, 1), (8, 7)] {
-        let large = made(&FOUR, seats, stripes, u32::MAX, 8);
+        let tables = made(&FOUR, seats, stripes, u32::MAX, 8);
         assert!(rt;
-            large == Shape::with_plan(&FOUR, seats, stripes),
+            tables == Shape::with_plan(&FOUR, seats, stripes),
             "{seats} seats"
         );
     }
@@ -81,7 +81,7 @@ fn large_plans(rt: HostRuntime) {
 
 /// They keep what they are tuned to where they get other seats.
 #[test]
-fn large_tuned_plans(rt: HostRuntime) -> Result<(), Fail> {
+fn tuned_plans_of_tables(rt: HostRuntime) -> Result<(), Fail> {
     let wide = made(&FOUR, 256, 255, 5, 64)?;
     assert!(rt; (wide.seats(), wide.stripes(), wide.words()) == (256, 255, 139_821));
     assert!(rt; told_of(&wide, 0) == Some((16, 5, 16, 1)));
@@ -111,36 +111,35 @@ fn seats_and_stripes_refusals(rt: HostRuntime) -> Result<(), Fail> {
 
 #[test]
 fn shapes_for_many_keys(rt: HostRuntime) {
-    let rows: [(usize, usize, &[u32]); 11] = [
-        (0, 1, &[5]),
-        (21, 8, &[5]),
-        (22, 16, &[6]),
-        (341, 17, &[9]),
-        (342, 64, &[10]),
-        (1365, 64, &[11]),
-        (1366, 64, &[4, 12]),
-        (1_000_000, 64, &[5, 13, 21]),
+    let rows: [(usize, usize, &[u32]); 8] = [
+        (FEW_KEYS + 1, 1, &[4, 12, 20]),
+        (699_051, 8, &[4, 12, 20]),
+        (699_052, 16, &[5, 13, 21]),
+        (1_000_000, 17, &[5, 13, 21]),
+        (11_184_811, 64, &[8, 16, 24]),
         (44_739_243, 128, &[10, 18, 26]),
         (44_739_244, 128, &[11, 19, 27]),
-        (MANY_KEYS, 256, &[4, 12, 20, 28]),
+        (MOST_KEYS, 256, &[4, 12, 20, 28]),
     ];
     for (most, seats, exponents) in rows {
         let due = made(exponents, seats, seats.min(16), 18, 256);
-        assert!(rt; Shape::for_many_keys(most, seats) == due, "for {most} keys");
+        assert!(rt; Shape::for_keys(most, seats) == due, "for {most} keys");
     }
 }
 
 #[test]
-fn many_keys_refusals(rt: HostRuntime) {
+fn for_keys_refusals(rt: HostRuntime) {
     for (most, seats, fault) in [
-        (MANY_KEYS + 1, 0, ShapeFault::Keys),
+        (MOST_KEYS + 1, 0, ShapeFault::Keys),
         (usize::MAX, 1, ShapeFault::Keys),
+        (MOST_KEYS, 0, ShapeFault::Seats),
+        (MOST_KEYS, 257, ShapeFault::Seats),
         (100, 0, ShapeFault::Seats),
         (100, 257, ShapeFault::Seats),
         (100, usize::MAX, ShapeFault::Seats),
     ] {
         assert!(rt;
-            Shape::for_many_keys(most, seats) == Err(fault),
+            Shape::for_keys(most, seats) == Err(fault),
             "for {most} keys"
         );
     }

@@ -3,7 +3,7 @@ use Rattle.std.specs.List.{All}
 use Rattle.std.specs.List.Sorted.{IsNonDecreasing}
 use Rattle.std.proofs.Math.Pow.{pow_mono}
 use Rattle.nb_core.specs.Plans.{plan, slots_in, steps_down, tables_for}
-use Rattle.nb_core.specs.declared.shapes.wide.TheConstants.{FIRST_EXPONENT, STEP}
+use Rattle.nb_core.specs.declared.shapes.keys.TheConstants.{FIRST_EXPONENT, STEP}
 use Rattle.nb_core.proofs.Filled.{IsFilled-more}
 use Rattle.nb_core.proofs.Stepped.{step_down, steps_down-filled, steps_down-rises, steps_down-sizes, steps_down-slots}
 use Rattle.nb_core.proofs.shapes.Shape.stepped.Goals as goal
