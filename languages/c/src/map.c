@@ -112,10 +112,9 @@ static bool has_membarrier;
 
 /* ---- small things -------------------------------------------------------------------------- */
 
-/* A full fence in this thread, and in all others that run. */
+/* A full fence in this thread, and in all others that run. Without membarrier calls have their own: they enter slowly. */
 static void heavy_fence(void)
 {
-    atomic_thread_fence(memory_order_seq_cst);
     if (has_membarrier && syscall(__NR_membarrier, MEMBARRIER_CMD_PRIVATE_EXPEDITED, 0, 0) != 0)
         abort();
 }
@@ -221,8 +220,8 @@ static bool is_busy(samvolip_map *map, unsigned i, unsigned what)
 {
     struct thread *owner = map->owners[i];
     if (owner)
-        return atomic_load_explicit(&owner->busy, memory_order_acquire) == map->id + what;
-    return atomic_load_explicit(&map->lanes[i].busy, memory_order_acquire) == what;
+        return atomic_load(&owner->busy) == map->id + what;
+    return atomic_load(&map->lanes[i].busy) == what;
 }
 
 /* Alone: closes the gate. Afterwards all writes, or all calls, have come to their end. The lock is held all the while, so that no
@@ -676,8 +675,8 @@ static COLD bool is_time(samvolip_map *map, lane *used)
     uint64_t slots = slots_of(map->core->exponent), keys = samvolip_size_estimate(&used->seat);
     bool is_crowded = UINT64_C(3) * found.taken > UINT64_C(2) * found.looked;
     bool is_sparse = slots > slots_of(exponent_for(map->options.room)) && keys * 8 * map->options.growth < slots;
-    uint64_t room = is_crowded ? slots / 16 : slots * 2 / 3 - slots * found.taken / found.looked;
-    used->left = (uint32_t)(room / (2 * (map->taken + SHARED))) + LEAST_LEFT;
+    uint64_t room = is_crowded ? slots / 16 : slots * 2 / 3 - slots * found.taken / found.looked, left = room / (2 * (map->taken + SHARED));
+    used->left = (uint32_t)(left < slots / 32 ? left : slots / 32) + LEAST_LEFT;
     return is_crowded || is_sparse;
 }
 
