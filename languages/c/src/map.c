@@ -389,10 +389,12 @@ static void thread_ends(void *unused)
 
 /* ---- how a call begins and ends ------------------------------------------------------------ */
 
+static inline bool is_inside(void) { return UNLIKELY(atomic_load_explicit(&here.busy, memory_order_relaxed) != REST); }
+
 /* Marks this thread as in the middle of a call that is in no core, unless it is in another one. */
 static bool go_inside(void)
 {
-    if (atomic_load_explicit(&here.busy, memory_order_relaxed) != REST)
+    if (is_inside())
         return false;
     atomic_store(&here.busy, WAITS);
     return true;
@@ -441,18 +443,24 @@ static COLD lane *enter_slowly(samvolip_map *map, unsigned what)
     }
 }
 
-/* Begins a call: the lane by whose seat it is made; NULL in the middle of another call of the thread. */
-static inline lane *enter(samvolip_map *map, unsigned what)
+/* Begins a call by the thread's own lane, if it has one and the gate is open; else the thread is inside, and it is NULL. */
+static inline lane *enter_at_once(samvolip_map *map, unsigned what)
 {
-    if (UNLIKELY(atomic_load_explicit(&here.busy, memory_order_relaxed) != REST))
-        return NULL;
     bool is_mine = here.ids[map->cell] == map->id;
     lane *mine = here.lanes[map->cell];
     atomic_store_explicit(&here.busy, is_mine ? map->id + what : WAITS, memory_order_relaxed);
     atomic_signal_fence(memory_order_seq_cst); /* heavy_fence makes it a full one */
-    if (UNLIKELY(!is_mine) || UNLIKELY(atomic_load_explicit(&map->gate, memory_order_acquire) != OPEN))
-        return enter_slowly(map, what);
-    return mine;
+    bool is_open = atomic_load_explicit(&map->gate, memory_order_acquire) == OPEN;
+    return UNLIKELY(!is_mine) || UNLIKELY(!is_open) ? NULL : mine;
+}
+
+/* Begins a call: the lane by whose seat it is made; NULL in the middle of another call of the thread. */
+static inline lane *enter(samvolip_map *map, unsigned what)
+{
+    if (is_inside())
+        return NULL;
+    lane *mine = enter_at_once(map, what);
+    return UNLIKELY(!mine) ? enter_slowly(map, what) : mine;
 }
 
 static inline void leave(void)
@@ -724,14 +732,25 @@ static inline bool is_done(samvolip_map *map, lane *used, int *code, bool is_cha
             return code;                                                                                                             \
     }
 
+/* Inside. It stands apart so that samvolip_map_get needs no stack. */
+static COLD int get_slowly(samvolip_map *map, uint64_t inner, uint64_t *number)
+{
+    lane *used = enter_slowly(map, READS);
+    int code = samvolip_get(&used->seat, inner, number);
+    leave();
+    return code;
+}
+
 int samvolip_map_get(samvolip_map *map, uint64_t key, uint64_t *number)
 {
     uint64_t inner = inner_key(map, key);
-    lane *used = enter(map, READS);
-    if (!used)
+    if (is_inside())
         return SAMVOLIP_E_NESTED;
-    int code = samvolip_get(&used->seat, inner, number);
-    leave();
+    lane *mine = enter_at_once(map, READS);
+    if (UNLIKELY(!mine))
+        return get_slowly(map, inner, number);
+    int code = samvolip_get(&mine->seat, inner, number);
+    go_outside();
     return code;
 }
 
