@@ -1,7 +1,8 @@
 #!/usr/bin/env bash
 # Makes libraries that need no kit of libnb_ffi.a, which `rt lib` builds in crates/nb_ffi: build.sh [FOLDER] writes to FOLDER (out/
-# here by default) libsamvolip.so, with the file that it stands for, and libsamvolip.a. Both show the names of samvolip.h and no
-# others, and have their own memory for large tables (src/memory.c). KIT is the kit's folder, CC the compiler.
+# here by default) libsamvolip.so, with the file that it stands for, and libsamvolip.a. Both show the names of samvolip.h and
+# samvolip_map.h and no others. Beside the proved part they have their own memory for large tables (src/memory.c) and the map without
+# an end (src/map.c). KIT is the kit's folder, CC the compiler.
 set -euo pipefail
 here="$(cd "$(dirname "${BASH_SOURCE[0]}")" && pwd)"
 to="${1:-$here/out}"
@@ -12,12 +13,14 @@ version="$(cat "$top/VERSION")"
 name="libsamvolip.so.${version%%.*}"
 [ -f "$archive" ] || { echo "build.sh: first run rt lib in crates/nb_ffi" >&2; exit 1; }
 mkdir -p "$to"
-"${CC:-cc}" -std=c11 -O2 -fPIC -Wall -Wextra -c "$here/src/memory.c" -o "$to/memory.o"
-parts=("@$here/src/links" "$to/memory.o" -Wl,--whole-archive "$archive" -Wl,--no-whole-archive "$kit/c/liblibc_c.a")
+for source in memory map; do
+    "${CC:-cc}" -std=gnu11 -O2 -fPIC -Wall -Wextra -I"$here/include" -c "$here/src/$source.c" -o "$to/$source.o"
+done
+parts=("@$here/src/links" "$to/memory.o" "$to/map.o" -Wl,--whole-archive "$archive" -Wl,--no-whole-archive "$kit/c/liblibc_c.a")
 
 printf '{ global: samvolip_*; local: *; };\n' > "$to/samvolip.map"
 rm -f "$to/libsamvolip.so" "$to/$name"
-"${CC:-cc}" -shared -o "$to/libsamvolip.so.$version" -Wl,-soname,"$name" -Wl,--version-script="$to/samvolip.map" -Wl,-z,defs "${parts[@]}" -lpthread
+"${CC:-cc}" -shared -o "$to/libsamvolip.so.$version" -Wl,-soname,"$name" -Wl,--version-script="$to/samvolip.map" -Wl,-z,defs -Wl,-z,nodelete "${parts[@]}" -lpthread
 ln -s "libsamvolip.so.$version" "$to/$name"
 ln -s "$name" "$to/libsamvolip.so"
 rm "$to/samvolip.map"
@@ -27,4 +30,4 @@ rm "$to/samvolip.map"
 "${OBJCOPY:-objcopy}" --wildcard --keep-global-symbol='samvolip_*' "$to/samvolip.o"
 rm -f "$to/libsamvolip.a"
 "${AR:-ar}" rcsD "$to/libsamvolip.a" "$to/samvolip.o"
-rm "$to/samvolip.o" "$to/memory.o"
+rm "$to/samvolip.o" "$to/memory.o" "$to/map.o"
