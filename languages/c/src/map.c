@@ -6,6 +6,7 @@
    has none: membarrier gives it to all threads that run when the gate is closed. So either the one who closes sees the busy word, or
    the call sees the gate. ../model/gate.pml is this for spin, and docs/endless.md tells it in a page. */
 #define _GNU_SOURCE
+#include "memory.h"
 #include "samvolip_map.h"
 #include <linux/membarrier.h>
 #include <pthread.h>
@@ -522,7 +523,8 @@ static bool has_memory(const samvolip_map *map, uint32_t exponent)
     return map->options.memory == 0 || slots <= map->options.memory / sizeof(samvolip_entry);
 }
 
-static int new_core(const samvolip_map *map, uint32_t exponent, core **made)
+/* A core for the map. `is_filled`: with spread keys, while others wait, so that its pages are wanted before. */
+static int new_core(const samvolip_map *map, uint32_t exponent, bool is_filled, core **made)
 {
     uint32_t stripes = map->count < 16 ? map->count : 16;
     samvolip_shape shape = {{exponent}, 1, map->count + 1, stripes, 18, 256};
@@ -530,7 +532,9 @@ static int new_core(const samvolip_map *map, uint32_t exponent, core **made)
     if (!fresh)
         return SAMVOLIP_E_OUT_OF_MEMORY;
     fresh->exponent = exponent;
+    takes_pages_at_once = is_filled && map->mixes;
     int code = samvolip_open(&shape, &fresh->reserve);
+    takes_pages_at_once = false;
     if (code < 0)
         free(fresh);
     else
@@ -614,7 +618,7 @@ static int copy(samvolip_map *map, const core *fresh)
 static int exchange(samvolip_map *map, uint32_t exponent, samvolip_map_walk *walk)
 {
     core *fresh;
-    int code = new_core(map, exponent, &fresh);
+    int code = new_core(map, exponent, walk == NULL, &fresh);
     if (code < 0)
         return code;
     if ((code = seat_lanes(map, fresh)) >= 0) {
@@ -1132,7 +1136,7 @@ int samvolip_map_open_with(uint32_t version, size_t options_size, size_t figures
     samvolip_map *map = new_map(&read);
     if (!map)
         return SAMVOLIP_E_OUT_OF_MEMORY;
-    int code = new_core(map, exponent_for(read.room), &map->core);
+    int code = new_core(map, exponent_for(read.room), false, &map->core);
     for (unsigned i = 0; i < COMMON && code >= 0; i++)
         code = samvolip_split(&map->core->reserve, &map->lanes[i].seat);
     if (code < 0) {
