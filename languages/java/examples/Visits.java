@@ -1,26 +1,23 @@
 import java.util.Comparator;
 import java.util.List;
-import samvolip.Ended;
 import samvolip.Entry;
 import samvolip.SamvolipMap;
 
 /** Counts visits: eight threads add to one map, and the three busiest visitors are printed. */
 public final class Visits {
     public static void main(String[] words) throws InterruptedException {
-        try (SamvolipMap visits = SamvolipMap.forKeys(1000, 9)) { // room for 1000 visitors; eight threads and this one
+        try (SamvolipMap visits = new SamvolipMap()) {
             Thread[] threads = new Thread[8];
             for (int t = 0; t < 8; t++) {
                 threads[t] = new Thread(() -> count(visits));
                 threads[t].start();
             }
-            for (Thread thread : threads) thread.join(); // their seats are free again
+            for (Thread thread : threads) thread.join();
 
             visits.removeIf((visitor, times) -> times < 100); // who came rarely is forgotten
-            try (Ended ended = visits.end()) {
-                List<Entry> busiest = ended.entries();
-                busiest.sort(Comparator.comparing(Entry::number).reversed());
-                for (Entry visit : busiest.subList(0, 3)) System.out.println("visitor " + visit.key() + " came " + visit.number() + " times");
-            }
+            List<Entry> busiest = visits.snapshot();
+            busiest.sort(Comparator.comparing(Entry::number).reversed());
+            for (Entry visit : busiest.subList(0, 3)) System.out.println("visitor " + visit.key() + " came " + visit.number() + " times");
         }
     }
 

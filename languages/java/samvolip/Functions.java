@@ -2,45 +2,41 @@ package samvolip;
 
 import java.lang.invoke.MethodHandle;
 
-/** The functions of samvolip.h. Addresses are longs; a handle is its first word, which is all that they read. */
+/** The functions of samvolip_map.h. Addresses are longs. */
 final class Functions {
     private Functions() {}
 
-    /** The version of the samvolip.h that this package tells of, and the sizes of its structs. */
-    static final int VERSION = 0x000900, SHAPE_SIZE = 84, HANDLE_SIZE = 8, REPLY_SIZE = 16, ENTRY_SIZE = 16, SLOTS_SIZE = 12, CURSOR_SIZE = 24;
+    /** The version of the samvolip_map.h that this package tells of, and the sizes of its structs. */
+    static final int VERSION = 0x000900, OPTIONS_SIZE = 32, FIGURES_SIZE = 64, ENTRY_SIZE = 16;
 
     static final int PRESENT = 1;
 
-    /** What a write asks of its key. */
-    static final int ANY = 0, WANT_ABSENT = 1, WANT_PRESENT = 2, EQUAL = 3;
-
-    /** What a write does to its key. */
-    static final int PUT = 0, REMOVE = 1, ADD = 2;
+    /** What a call answers where there is no number. */
+    static final long NONE = Long.MIN_VALUE;
 
     private static final Class<?> I = int.class, L = long.class;
-    static final MethodHandle OPEN = Native.function("samvolip_open_with", false, I, L, L, L);
-    static final MethodHandle SPLIT = Native.function("samvolip_split", false, I, L, L);
-    static final MethodHandle JOIN = Native.function("samvolip_join", false, I, L, L);
-    static final MethodHandle SETTLE = Native.function("samvolip_settle", false, I, L, L);
-    static final MethodHandle ENTRIES = Native.function("samvolip_entries", false, I, L, L, L, L);
-    static final MethodHandle RENEW = Native.function("samvolip_renew", false, I, L, L);
-    static final MethodHandle CLOSE = Native.function("samvolip_close", false, I, L, L);
-    static final MethodHandle FREE = Native.function("samvolip_free_open", false, void.class, L);
-    static final MethodHandle GET = Native.function("samvolip_get", true, I, L, L, L);
-    static final MethodHandle PUT_IF_MATCH = Native.function("samvolip_put_if_match", false, I, L, L, I, L, I, L, I, L);
-    static final MethodHandle TRY_PUT = Native.function("samvolip_try_put", false, I, L, L, L, I, L);
-    static final MethodHandle TRY_PUT_IF_ABSENT = Native.function("samvolip_try_put_if_absent", false, I, L, L, L, I, L);
-    static final MethodHandle TRY_ADD = Native.function("samvolip_try_add", false, I, L, L, L, I, L);
-    static final MethodHandle TRY_REMOVE = Native.function("samvolip_try_remove", false, I, L, L, I, L);
-    static final MethodHandle SIZE_ESTIMATE = Native.function("samvolip_size_estimate", true, L, L);
-    static final MethodHandle GENERATION = Native.function("samvolip_generation", true, I, L);
-    static final MethodHandle OCCUPANCY = Native.function("samvolip_occupancy", true, void.class, L, L);
-    static final MethodHandle WALK = Native.function("samvolip_walk", true, void.class, L, L);
-    static final MethodHandle NEXT = Native.function("samvolip_next", false, I, L, L, L, L);
-    static final MethodHandle ENDED_SIZE = Native.function("samvolip_ended_size", true, L, L);
-    static final MethodHandle ENDED_GET = Native.function("samvolip_ended_get", false, I, L, L, L);
-    static final MethodHandle ENDED_ENTRIES = Native.function("samvolip_ended_entries", false, I, L, L, L);
-    static final MethodHandle ENDED_FREE = Native.function("samvolip_ended_free_open", false, void.class, L);
+    static final MethodHandle OPEN = Native.function("samvolip_map_open_with", false, I, I, L, L, L, L);
+    static final MethodHandle FREE = Native.function("samvolip_map_free", false, void.class, L);
+    static final MethodHandle LEAVE = Native.function("samvolip_map_leave", false, void.class, L);
+    static final MethodHandle GET = Native.function("samvolip_map_get_word", true, L, L, L);
+    static final MethodHandle PUT = Native.function("samvolip_map_put_word", false, L, L, L, L);
+    static final MethodHandle PUT_IF_ABSENT = Native.function("samvolip_map_put_if_absent_word", false, L, L, L, L);
+    static final MethodHandle FETCH_MAX = Native.function("samvolip_map_fetch_max_word", false, L, L, L, L);
+    static final MethodHandle FETCH_MIN = Native.function("samvolip_map_fetch_min_word", false, L, L, L, L);
+    static final MethodHandle ADD = Native.function("samvolip_map_add_word", false, L, L, L, L);
+    static final MethodHandle REPLACE = Native.function("samvolip_map_replace_word", false, L, L, L, L);
+    static final MethodHandle REPLACE_IF = Native.function("samvolip_map_replace_if", false, I, L, L, L, L);
+    static final MethodHandle REMOVE = Native.function("samvolip_map_remove_word", false, L, L, L);
+    static final MethodHandle REMOVE_IF = Native.function("samvolip_map_remove_if", false, I, L, L, L);
+    static final MethodHandle SIZE = Native.function("samvolip_map_size_word", false, L, L);
+    static final MethodHandle SIZE_ESTIMATE = Native.function("samvolip_map_size_estimate_word", true, L, L);
+    static final MethodHandle CLEAR = Native.function("samvolip_map_clear", false, I, L, L, L);
+    static final MethodHandle SNAPSHOT = Native.function("samvolip_map_snapshot", false, I, L, L, L, L);
+    static final MethodHandle RENEW = Native.function("samvolip_map_renew", false, I, L, L);
+    static final MethodHandle LOOK = Native.function("samvolip_map_look", false, I, L, L);
+    static final MethodHandle WALK_BEGIN = Native.function("samvolip_map_walk_begin", false, I, L, L);
+    static final MethodHandle WALK_SOME = Native.function("samvolip_map_walk_some", false, I, L, L, I);
+    static final MethodHandle WALK_END = Native.function("samvolip_map_walk_end", false, void.class, L);
 
     /** Finds all of them. */
     static void touch() {}
@@ -49,6 +45,12 @@ final class Functions {
     static int made(int code) {
         if (code < 0) throw new Refused(Code.of(code));
         return code;
+    }
+
+    /** The same of an answer in one word. */
+    static long made(long word) {
+        if (word < 0 && word != NONE) throw new Refused(Code.of((int) word));
+        return word;
     }
 
     /** What a method handle threw, to be thrown on. */

@@ -1,223 +1,416 @@
 package samvolip;
 
+import static samvolip.Functions.NONE;
+import static samvolip.Functions.PRESENT;
+import static samvolip.Functions.made;
+import static samvolip.Functions.wrong;
+
+import java.lang.invoke.MethodHandle;
 import java.lang.ref.Cleaner;
 import java.lang.ref.Reference;
+import java.util.Arrays;
+import java.util.Iterator;
+import java.util.List;
 import java.util.Objects;
 import java.util.OptionalLong;
+import java.util.function.LongBinaryOperator;
+import java.util.function.LongUnaryOperator;
+import java.util.function.UnaryOperator;
 
 /**
- * A map that any thread may call.
+ * A map from numbers to numbers that any thread may call, platform or virtual, with the calls of java.util.concurrent.ConcurrentMap on
+ * longs. It begins small, grows and shrinks, and its memory is outside of Java's heap.
  *
- * <p>A thread takes one of the map's seats at its first call. The seat is free again when the thread has ended, or by {@link #giveBack}, which
- * is for threads of a pool; {@link #givingBack} makes a task that gives it back. Only when a seat is taken or given back, and at the map's end, a lock is taken. While
- * all seats are taken, the first call of one more thread is refused as {@link Code#ALL_SEATS_TAKEN}. A virtual thread is a thread, too.
+ * <p>Keys and numbers are unsigned: a key past {@link Keys#KEY_MAX} is refused as {@link Code#E_KEY_RANGE}, a number past
+ * {@link Keys#VALUE_MAX} as {@link Code#E_VALUE_RANGE}. A write of a new key is refused as {@link Code#E_OUT_OF_MEMORY} if all slots are
+ * taken and there is no memory for more.
  *
- * <p>The map mixes its keys, unless it is opened with {@link Keys#PLAIN}.
+ * <p>Reads wait for nobody, but for a moment while a new table takes the place of an old one. Writes wait while its entries are copied,
+ * and help.
  */
-public final class SamvolipMap extends LongMap implements AutoCloseable {
-    private final Pool pool;
-    private final Keys keys;
-    private final ThreadLocal<Lane> mine = new ThreadLocal<>();
+public final class SamvolipMap implements AutoCloseable, Iterable<Entry> {
+    private final long at;
     private final Cleaner.Cleanable freed;
+    private volatile boolean isClosed;
 
-    private SamvolipMap(Pool pool, Keys keys) {
-        this.pool = pool;
-        this.keys = keys;
-        freed = Cleaners.CLEANER.register(this, pool::release);
+    /** What a call does with each key and its number. */
+    @FunctionalInterface
+    public interface EntryConsumer {
+        void accept(long key, long number);
     }
 
-    /** A map with room to spare for so many different keys, and for so many threads at a time, by {@link Shape#forKeys}. */
-    public static SamvolipMap forKeys(long most, int seats) {
-        return open(Shape.forKeys(most, seats));
+    /** What {@link #removeIf} asks of each key and its number. */
+    @FunctionalInterface
+    public interface EntryPredicate {
+        boolean test(long key, long number);
     }
 
-    /** A map of this shape. It takes all memory that it will have, outside of Java's heap. Refused by what is wrong with the shape. */
-    public static SamvolipMap open(Shape shape) {
-        return open(shape, Keys.MIXED);
+    /** An empty map. */
+    public SamvolipMap() {
+        this(new Options());
     }
 
-    /** The same for a map that keeps its keys as it is told. */
-    public static SamvolipMap open(Shape shape, Keys keys) {
-        Objects.requireNonNull(keys);
-        return new SamvolipMap(new Pool(shape.seats(), Lane.open(shape)), keys);
+    /** The same by options. Refused as {@link Code#E_OPTIONS} where one is out of its range. */
+    public SamvolipMap(Options options) {
+        Library.load();
+        long at = open(options);
+        this.at = at;
+        freed = Cleaners.CLEANER.register(this, () -> free(at));
     }
 
-    /** How many threads may call at a time. */
-    public int seats() {
-        return pool.seats();
+    private static long open(Options options) {
+        long words = Native.allocate(Functions.OPTIONS_SIZE + 8);
+        try {
+            Native.setLong(words, options.room());
+            Native.setLong(words + 8, options.memory());
+            Native.setInt(words + 16, options.growth());
+            Native.setInt(words + 20, options.threads());
+            Native.setInt(words + 24, options.keys().ordinal());
+            made((int) Functions.OPEN.invokeExact(Functions.VERSION, (long) Functions.OPTIONS_SIZE, (long) Functions.FIGURES_SIZE, words,
+                words + Functions.OPTIONS_SIZE));
+            return Native.getLong(words + Functions.OPTIONS_SIZE);
+        } catch (Throwable thrown) {
+            throw wrong(thrown);
+        } finally {
+            Native.free(words);
+        }
     }
 
-    /** How the map keeps its keys. */
-    public Keys keys() {
-        return keys;
+    private static void free(long at) {
+        try {
+            Functions.FREE.invokeExact(at);
+        } catch (Throwable thrown) {
+            throw wrong(thrown);
+        }
     }
 
-    /** The calling thread's seat, which it takes at its first call. */
-    private Lane lane() {
-        Lane lane = mine.get();
-        return lane != null ? lane : take();
-    }
-
-    private Lane take() {
-        Lane lane = pool.take();
-        mine.set(lane);
-        return lane;
-    }
-
-    /** The calling thread's seat, or null. A thread's ThreadLocals may be taken away while it lives: the pool knows its seat still. */
-    private Lane held() {
-        Lane lane = mine.get();
-        return lane != null ? lane : pool.mine();
+    /** Where the map is. As long as the caller keeps this object, it isn't freed. */
+    long at() {
+        if (isClosed) throw new IllegalStateException("the map was closed");
+        return at;
     }
 
     // the fences: as long as a call is under way the map isn't lost, so the cleaner doesn't free it
 
-    @Override
-    OptionalLong found(long key) {
+    private long word(MethodHandle call, long key) {
         try {
-            return lane().found(keys.inside(key));
+            return made((long) call.invokeExact(at(), key));
+        } catch (Throwable thrown) {
+            throw wrong(thrown);
         } finally {
             Reference.reachabilityFence(this);
         }
     }
 
-    @Override
-    long foundOr(long key, long other) {
+    private static OptionalLong found(long word) {
+        return word == NONE ? OptionalLong.empty() : OptionalLong.of(word);
+    }
+
+    /** What is at a key. */
+    public OptionalLong get(long key) {
+        return found(getOrDefault(key, NONE));
+    }
+
+    /** What is at a key, or another number. */
+    public long getOrDefault(long key, long other) {
         try {
-            return lane().foundOr(keys.inside(key), other);
+            long word = made((long) Functions.GET.invokeExact(at(), key));
+            return word == NONE ? other : word;
+        } catch (Throwable thrown) {
+            throw wrong(thrown);
         } finally {
             Reference.reachabilityFence(this);
         }
     }
 
-    @Override
-    OptionalLong written(long key, int want, int change, long number) {
+    /** Whether there is a number at a key. */
+    public boolean containsKey(long key) {
+        return getOrDefault(key, NONE) != NONE;
+    }
+
+    /** Puts a number at a key, and answers what was there. */
+    public OptionalLong put(long key, long number) {
         try {
-            return lane().written(keys.inside(key), want, change, number);
+            return found(made((long) Functions.PUT.invokeExact(at(), key, number)));
+        } catch (Throwable thrown) {
+            throw wrong(thrown);
         } finally {
             Reference.reachabilityFence(this);
         }
     }
 
-    @Override
-    boolean matched(long key, int want, long old, int change, long number) {
+    /** Puts a number at a key that has none, and answers what was there. */
+    public OptionalLong putIfAbsent(long key, long number) {
         try {
-            return lane().matched(keys.inside(key), want, old, change, number);
+            return found(made((long) Functions.PUT_IF_ABSENT.invokeExact(at(), key, number)));
+        } catch (Throwable thrown) {
+            throw wrong(thrown);
         } finally {
             Reference.reachabilityFence(this);
         }
     }
 
-    @Override
-    void beginWalk(long cursor) {
+    /** Adds a number to what is at a key, or to 0, and answers what was there. May be refused as {@link Code#E_SUM_RANGE}, too. */
+    public OptionalLong add(long key, long number) {
         try {
-            Lane lane = lane();
-            lane.walk(cursor);
-            lane.walks++;
+            return found(made((long) Functions.ADD.invokeExact(at(), key, number)));
+        } catch (Throwable thrown) {
+            throw wrong(thrown);
         } finally {
             Reference.reachabilityFence(this);
         }
     }
 
-    @Override
-    boolean next(long cursor, long[] entry) {
+    /** Puts a number at a key that has a smaller one or none, and answers what was there. */
+    public OptionalLong putGreatest(long key, long number) {
         try {
-            // the lane that began the walk: the thread gives it back by no call before the walk's end
-            if (!lane().next(cursor, entry)) return false;
-            entry[0] = keys.outside(entry[0]);
-            return true;
+            return found(made((long) Functions.FETCH_MAX.invokeExact(at(), key, number)));
+        } catch (Throwable thrown) {
+            throw wrong(thrown);
         } finally {
             Reference.reachabilityFence(this);
         }
     }
 
-    @Override
-    void endWalk() {
-        Lane lane = held();
-        if (lane != null) lane.walks--;
-        Reference.reachabilityFence(this);
+    /** Puts a number at a key that has a greater one or none, and answers what was there. */
+    public OptionalLong putLeast(long key, long number) {
+        try {
+            return found(made((long) Functions.FETCH_MIN.invokeExact(at(), key, number)));
+        } catch (Throwable thrown) {
+            throw wrong(thrown);
+        } finally {
+            Reference.reachabilityFence(this);
+        }
     }
 
-    @Override
+    /** Puts a number in place of another, and answers what was there. */
+    public OptionalLong replace(long key, long number) {
+        try {
+            return found(made((long) Functions.REPLACE.invokeExact(at(), key, number)));
+        } catch (Throwable thrown) {
+            throw wrong(thrown);
+        } finally {
+            Reference.reachabilityFence(this);
+        }
+    }
+
+    /** Puts a number in place of this one, and answers whether it did. */
+    public boolean replace(long key, long old, long number) {
+        try {
+            return made((int) Functions.REPLACE_IF.invokeExact(at(), key, old, number)) == PRESENT;
+        } catch (Throwable thrown) {
+            throw wrong(thrown);
+        } finally {
+            Reference.reachabilityFence(this);
+        }
+    }
+
+    /** Takes a key out, and answers what was there. */
+    public OptionalLong remove(long key) {
+        return found(word(Functions.REMOVE, key));
+    }
+
+    /** Takes out a key that has this number, and answers whether it did. */
+    public boolean remove(long key, long number) {
+        try {
+            return made((int) Functions.REMOVE_IF.invokeExact(at(), key, number)) == PRESENT;
+        } catch (Throwable thrown) {
+            throw wrong(thrown);
+        } finally {
+            Reference.reachabilityFence(this);
+        }
+    }
+
+    /** Sets a key from one number to another by one step, and answers whether it did. Empty is no number. */
+    public boolean compareAndSet(long key, OptionalLong old, OptionalLong now) {
+        if (old.isPresent()) return now.isPresent() ? replace(key, old.getAsLong(), now.getAsLong()) : remove(key, old.getAsLong());
+        return now.isPresent() ? putIfAbsent(key, now.getAsLong()).isEmpty() : !containsKey(key);
+    }
+
+    /**
+     * Sets a key to what a function makes of its number, and answers what was there. Empty is no number. The function is called again if
+     * another thread wrote the key meanwhile.
+     */
+    public OptionalLong update(long key, UnaryOperator<OptionalLong> next) {
+        Objects.requireNonNull(next);
+        while (true) {
+            OptionalLong found = get(key);
+            if (compareAndSet(key, found, next.apply(found))) return found;
+        }
+    }
+
+    /** The number at a key. If there is none, what a function makes of the key is put there, unless another thread comes first. */
+    public long computeIfAbsent(long key, LongUnaryOperator make) {
+        Objects.requireNonNull(make);
+        OptionalLong found = get(key);
+        if (found.isPresent()) return found.getAsLong();
+        long made = make.applyAsLong(key);
+        return putIfAbsent(key, made).orElse(made);
+    }
+
+    /** Sets a key that has a number to what a function makes of the key and its number, and answers that; empty if it has none. */
+    public OptionalLong computeIfPresent(long key, LongBinaryOperator next) {
+        Objects.requireNonNull(next);
+        while (true) {
+            OptionalLong found = get(key);
+            if (found.isEmpty()) return found;
+            long made = next.applyAsLong(key, found.getAsLong());
+            if (replace(key, found.getAsLong(), made)) return OptionalLong.of(made);
+        }
+    }
+
+    /** Puts a number at a key that has none; else sets it to what a function makes of its number and this one. Answers what is there then. */
+    public long merge(long key, long number, LongBinaryOperator join) {
+        Objects.requireNonNull(join);
+        while (true) {
+            OptionalLong found = putIfAbsent(key, number);
+            if (found.isEmpty()) return number;
+            long made = join.applyAsLong(found.getAsLong(), number);
+            if (replace(key, found.getAsLong(), made)) return made;
+        }
+    }
+
+    /** How many keys there are. Exact: writes wait for some microseconds. */
+    public long size() {
+        return whole(Functions.SIZE);
+    }
+
+    /** About how many keys there are: a guess while others write, and exact while nobody does. */
     public long sizeEstimate() {
+        return whole(Functions.SIZE_ESTIMATE);
+    }
+
+    /** Whether there are no keys. */
+    public boolean isEmpty() {
+        return size() == 0;
+    }
+
+    private long whole(MethodHandle call) {
         try {
-            return lane().sizeEstimate();
+            return made((long) call.invokeExact(at()));
+        } catch (Throwable thrown) {
+            throw wrong(thrown);
         } finally {
             Reference.reachabilityFence(this);
         }
     }
 
-    @Override
-    public int generation() {
+    /** Takes all keys out in one step. */
+    public void clear() {
         try {
-            return lane().generation();
+            made((int) Functions.CLEAR.invokeExact(at(), 0L, 0L));
+        } catch (Throwable thrown) {
+            throw wrong(thrown);
         } finally {
             Reference.reachabilityFence(this);
         }
     }
 
-    @Override
-    public Occupancy occupancy() {
-        try {
-            return lane().occupancy();
-        } finally {
-            Reference.reachabilityFence(this);
-        }
-    }
-
-    /**
-     * A seat for calls without a look at the thread's own. It is another one than the thread's, and {@link Seat#close} gives it back. It keeps
-     * the keys as the map does.
-     */
-    public Seat seat() {
-        return new Seat(pool.lend(), this, pool);
-    }
-
-    /** Gives the calling thread's seat back before the thread ends. Its next call takes a seat again. */
-    public void giveBack() {
-        Lane lane = held();
-        if (lane == null) return;
-        if (lane.walks > 0) throw new IllegalStateException("a walk of this thread over the map is under way");
-        mine.remove();
-        pool.giveBackMine();
-        Reference.reachabilityFence(this);
-    }
-
-    /** A task for a thread of a pool: this one, and then {@link #giveBack}. */
-    public Runnable givingBack(Runnable task) {
-        Objects.requireNonNull(task);
-        return () -> {
+    /** All entries of one moment, in no order. Writes wait meanwhile, and reads go on. */
+    public List<Entry> snapshot() {
+        for (long room = sizeEstimate() + 100; ; room *= 2) {
+            long words = Native.allocate(8 + room * Functions.ENTRY_SIZE);
             try {
-                task.run();
+                int code = (int) Functions.SNAPSHOT.invokeExact(at(), words + 8, room, words);
+                if (code == Code.E_ROOM.number()) continue;
+                made(code);
+                Entry[] entries = new Entry[Math.toIntExact(Native.getLong(words))];
+                Arrays.setAll(entries, i -> entryAt(words + 8 + (long) i * Functions.ENTRY_SIZE));
+                return Arrays.asList(entries);
+            } catch (Throwable thrown) {
+                throw wrong(thrown);
             } finally {
-                giveBack();
+                Native.free(words);
+                Reference.reachabilityFence(this);
             }
-        };
+        }
+    }
+
+    private static Entry entryAt(long words) {
+        return new Entry(Native.getLong(words), Native.getLong(words + 8));
     }
 
     /**
-     * Ends the map: what is left of it. It waits for nobody. While other threads that live have seats, or seats are out by {@link #seat}, it is
-     * refused as {@link Code#SEATS_OUT}, and the message says how many.
+     * A walk over the map's keys, while all threads may write it, this one too; any number at a time, in one another or not. No key is
+     * shown twice, and each key that the map has all the while is shown, with a number that it had meanwhile. One thread at a time
+     * goes on with it.
      */
-    public Ended end() {
+    @Override
+    public Iterator<Entry> iterator() {
+        return new Walk(this);
+    }
+
+    /** The same, shown to a function. */
+    public void forEach(EntryConsumer shown) {
+        Objects.requireNonNull(shown);
+        Walk walk = new Walk(this);
         try {
-            giveBack();
-            return new Ended(pool.end(), keys);
+            while (walk.hasNext()) {
+                long key = walk.key(), number = walk.number();
+                walk.pass();
+                shown.accept(key, number);
+            }
+        } finally {
+            walk.end();
+        }
+    }
+
+    /** Takes out the keys of which the test says so, and answers how many. A key whose number was changed after the test stays. */
+    public long removeIf(EntryPredicate test) {
+        Objects.requireNonNull(test);
+        long[] removed = new long[1];
+        forEach((key, number) -> {
+            if (test.test(key, number) && remove(key, number)) removed[0]++;
+        });
+        return removed[0];
+    }
+
+    /** Makes the map anew, with room for so many keys or for those that there are; 0 stands for what the options say. */
+    public void renew(long room) {
+        try {
+            made((int) Functions.RENEW.invokeExact(at(), room));
+        } catch (Throwable thrown) {
+            throw wrong(thrown);
         } finally {
             Reference.reachabilityFence(this);
         }
     }
 
-    /** Frees the map, if it wasn't ended. Refused as {@link #end}. */
+    /** What happened so far, and how large the map is. */
+    public Figures figures() {
+        long words = Native.allocate(Functions.FIGURES_SIZE);
+        try {
+            made((int) Functions.LOOK.invokeExact(at(), words));
+            long[] all = new long[Functions.FIGURES_SIZE / 8];
+            Arrays.setAll(all, i -> Native.getLong(words + 8L * i));
+            return new Figures(all[0], all[1], all[2], all[3], all[4], all[5], all[6], all[7]);
+        } catch (Throwable thrown) {
+            throw wrong(thrown);
+        } finally {
+            Native.free(words);
+            Reference.reachabilityFence(this);
+        }
+    }
+
+    /** Gives back this thread's seat before the thread ends. It may call again later. */
+    public void leave() {
+        try {
+            Functions.LEAVE.invokeExact(at());
+        } catch (Throwable thrown) {
+            throw wrong(thrown);
+        } finally {
+            Reference.reachabilityFence(this);
+        }
+    }
+
+    /**
+     * Empties the map, which may not be called any more. Other threads may be in the middle of a call: its table goes at once, and the rest,
+     * some ten kilobytes, once nobody has the map any more.
+     */
     @Override
     public void close() {
-        giveBack();
-        pool.close();
-        freed.clean();
-    }
-
-    @Override
-    public String toString() {
-        return "SamvolipMap[seats=" + seats() + ", keys=" + keys + "]";
+        if (isClosed) return;
+        clear();
+        isClosed = true;
     }
 }

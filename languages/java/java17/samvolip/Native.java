@@ -62,8 +62,8 @@ final class Native {
         return MemoryAccess.getLongAtOffset(ALL, at);
     }
 
-    static int getInt(long at) {
-        return MemoryAccess.getIntAtOffset(ALL, at);
+    static void setLong(long at, long number) {
+        MemoryAccess.setLongAtOffset(ALL, at, number);
     }
 
     static void setInt(long at, int number) {

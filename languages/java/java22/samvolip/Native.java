@@ -59,8 +59,8 @@ final class Native {
         return ALL.get(ValueLayout.JAVA_LONG, at);
     }
 
-    static int getInt(long at) {
-        return ALL.get(ValueLayout.JAVA_INT, at);
+    static void setLong(long at, long number) {
+        ALL.set(ValueLayout.JAVA_LONG, at, number);
     }
 
     static void setInt(long at, int number) {
