@@ -663,9 +663,11 @@ static int renew(samvolip_map *map, uint64_t room, bool is_full)
 {
     int code = SAMVOLIP_E_FULL;
     while (code == SAMVOLIP_E_FULL) {
-        uint64_t keys = samvolip_size_estimate(&map->lanes[0].seat), asked = room ? room : keys * map->options.growth;
-        uint64_t slots = is_full ? keys + 1 : keys + keys / 2;
-        uint32_t least = exponent_of(slots), exponent = exponent_for(greater(keys, greater(asked, map->options.room)));
+        uint64_t keys = samvolip_size_estimate(&map->lanes[0].seat), slots = is_full ? keys + 1 : keys + keys / 2;
+        /* it comes when there are about 2/3 as many keys as slots: by 5/4, and not 3/2, 4 times as many don't become 8 times by rounding */
+        uint64_t grown = keys * map->options.growth, wanted = room ? room + room / 2 : grown + grown / 4;
+        wanted = greater(wanted, greater(keys + keys / 2, map->options.room + map->options.room / 2));
+        uint32_t least = exponent_of(slots), exponent = exponent_of(wanted);
         code = SAMVOLIP_E_OUT_OF_MEMORY;
         if (slots_of(least) >= slots)
             do
