@@ -1,4 +1,4 @@
-use Rattle.std.proofs.Common.{◌≡◌, ◌∙◌, ap, subst, sym}
+use Rattle.std.proofs.Common.{◌∙◌, ap, subst, sym}
 use Rattle.std.specs.Arc.{arc_value}
 use Rattle.nb_map.proofs.Held.{joined-mine}
 use Rattle.nb_map.specs.Maps.{AreMine}

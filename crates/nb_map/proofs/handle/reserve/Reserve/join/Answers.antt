@@ -1,4 +1,4 @@
-use Rattle.std.proofs.Common.{◌≡◌, ◌∙◌, ◌++◌, ◌∷◌, ap₂, map, None, Some, rules}
+use Rattle.std.proofs.Common.{◌∙◌, ◌++◌, ◌∷◌, ap₂, rules}
 use Rattle.nb_map.proofs.Reserves.{is-reserve, joined, reserve-of}
 use Rattle.nb_map.specs.inside.Reserves.{held}
 use Rattle.nb_map.proofs.handle.reserve.Reserve.join.Goals as goal

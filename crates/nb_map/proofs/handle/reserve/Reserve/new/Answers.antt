@@ -1,4 +1,4 @@
-use Rattle.std.proofs.Common.{◌≡◌, ◌∙◌, ◌∷◌, ap, sym, rules}
+use Rattle.std.proofs.Common.{◌∙◌, ◌∷◌, ap, sym, rules}
 use Rattle.std.specs.Vec.Iter.{into_iter_items}
 use Rattle.nb_core.proofs.Seating.{all-moved}
 use Rattle.nb_map.proofs.Reserves.{is-reserve, reserve-of}

@@ -1,4 +1,4 @@
-use Rattle.std.proofs.Common.{◌≡◌, ◌∷◌, None, Some, map}
+use Rattle.std.proofs.Common.{◌∷◌, None, Some, map}
 use Rattle.std.specs.Vec.Iter.{into_iter_items}
 use Rattle.nb_core.proofs.Seating.{AreMoved}
 use Rattle.nb_map.proofs.handle.reserve.Reserve.new.Given as goal

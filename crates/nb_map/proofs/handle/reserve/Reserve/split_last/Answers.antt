@@ -1,4 +1,4 @@
-use Rattle.std.proofs.Common.{◌≡◌, ◌∙◌, ◌++◌, ◌∷◌, [], ap, sym, length, arith}
+use Rattle.std.proofs.Common.{◌∙◌, [], ap, sym, length, arith}
 use Rattle.nb_map.proofs.Reserves.{is-reserve, last-full, last-held, left-full, node-empty, reserve-of}
 use Rattle.nb_map.proofs.handle.reserve.Reserve.split_last.Goals as goal
 

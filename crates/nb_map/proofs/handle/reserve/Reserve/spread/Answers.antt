@@ -1,4 +1,4 @@
-use Rattle.std.proofs.Common.{◌≡◌, ◌∙◌, ◌∷◌, Some, ap, map, sym, rules}
+use Rattle.std.proofs.Common.{◌∙◌, ◌∷◌, ap, sym, rules}
 use Rattle.std.specs.Vec.Iter.{into_iter_items}
 use Rattle.nb_map.proofs.Reserves.{all-behind, is-reserve, one-more, reserve-of}
 use Rattle.nb_map.proofs.handle.reserve.Reserve.spread.Goals as goal
