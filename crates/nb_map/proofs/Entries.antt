@@ -18,10 +18,10 @@ use Rattle.nb_core.specs.declared.calls.Call.{Call}
 use Rattle.nb_core.specs.declared.calls.Call.TheVariants.{Get}
 use Rattle.nb_core.specs.declared.calls.Reply.{Reply}
 use Rattle.nb_map.proofs.Alone.{all-its, entries-by, entry_by, whole-is}
-use Rattle.nb_map.proofs.Crowding.{asks_add_up}
-use Rattle.nb_map.proofs.Logged.{logged-same, logged-then}
-use Rattle.nb_map.proofs.Made.{begins, begins-itself, begins-more}
+use Rattle.nb_map.proofs.Logged.{logged-same, logged-then, worked-uncounted}
+use Rattle.nb_map.proofs.Made.{made-more, made-none, made-within}
 use Rattle.nb_map.proofs.Opened.{caught-logs}
+use Rattle.nb_map.proofs.Rested.{made-rested}
 use Rattle.nb_map.proofs.Settled.{each-mine}
 use Rattle.nb_map.specs.Bulk.{read_as, walk_steps}
 use Rattle.nb_map.specs.Ending.{HasAll}
@@ -269,9 +269,7 @@ module _ (m : MapOf) where
     made = [];
     reads = All-nil IsRead;
     logged = logged-same mine refl;
-    later = record { number = refl; seen = begins-itself seat.chain.seen };
-    claims = λ calls asked. asked;
-    short = omega arith;
+    worked = λ key. worked-uncounted (made-none m.chain (Get key) seat.chain mine.chain) refl;
     count = refl;
     own = mine;
   }
@@ -284,27 +282,23 @@ module _ (m : MapOf) where
     made = [];
     reads = All-nil IsRead;
     logged = caught.logged;
-    later = record { number = caught.logged.number; seen = begins caught.grows };
-    claims = λ calls asked. asks_add_up.rested caught.own.chain.plan asked caught.grows;
-    short = omega (arith, caught.grows.steps);
+    worked = λ key. worked-uncounted (made-rested (Get key) caught.grows) caught.count;
     count = caught.count;
     own = caught.own;
   }
 
   -- and one after the other
   read-then :
-      {old mid new : SeatOf} {most most' : ℕ} (all : ℕ) → most + most' ≤ all
+      {old mid new : SeatOf} {most most' : ℕ} (all : ℕ) → IsMine m old → most + most' ≤ all
       → HasOnlyRead m old mid most → HasOnlyRead m mid new most' → HasOnlyRead m old new all
-  read-then all fits first second = record {
+  read-then all mine fits first second = record {
     made = second.made ++ first.made;
     reads = All-append IsRead second.made first.made second.reads first.reads;
     logged = logged-then first.logged second.logged;
-    later = record {
-      number = second.later.number ∙ first.later.number;
-      seen = begins-more first.later.seen second.later.seen;
-    };
-    claims = λ calls asked. second.claims calls (first.claims calls asked);
-    short = omega (arith, fits, first.short, second.short);
+    worked = λ key. worked-uncounted
+        (made-within _ all fits
+        (made-more m.chain mine.chain (first.worked key).steps.1 (second.worked key).steps.1))
+        (second.count ∙ first.count);
     count = second.count ∙ first.count;
     own = second.own;
   }
@@ -319,8 +313,9 @@ module _ (m : MapOf) where
   pub have-none : (seats : List SeatOf) → All (IsMine m) seats → HaveOnlyRead m seats seats
   have-none [] mine = tt
   have-none (seat ∷ seats) mine =
-      let this = read-none (All-head (IsMine m) seat seats mine) in (
-        read-then most (omega arith) this this,
+      let here = All-head (IsMine m) seat seats mine in
+      let this = read-none here in (
+        read-then most here (omega arith) this this,
         have-none seats (All-tail (IsMine m) seat seats mine),
       )
 
@@ -332,8 +327,9 @@ module _ (m : MapOf) where
   have-walked [] back walker walker' mine read =
       (read, have-none back (All-tail (IsMine m) walker back mine))
   have-walked (seat ∷ front) back walker walker' mine read =
-      let this = read-none (All-head (IsMine m) seat (front ++ walker ∷ back) mine) in (
-        read-then most (omega arith) this this,
+      let here = All-head (IsMine m) seat (front ++ walker ∷ back) mine in
+      let this = read-none here in (
+        read-then most here (omega arith) this this,
         have-walked front back walker walker' (All-tail (IsMine m) seat (front ++ walker ∷ back) mine)
             read,
       )
@@ -348,52 +344,58 @@ module _ (m : MapOf) where
       (read-caught each.0, have-stayed whole before after each.1)
 
   stayed-then :
-      (before mid after : List SeatOf) → HaveStayed before mid → HaveOnlyRead m mid after
-      → HaveOnlyRead m before after
-  stayed-then [] [] [] a b = tt
-  stayed-then [] [] (new ∷ after) a b = absurd b
-  stayed-then [] (x ∷ mid) after a b = absurd a
-  stayed-then (old ∷ before) [] after a b = absurd a
-  stayed-then (old ∷ before) (x ∷ mid) [] a b = absurd b
-  stayed-then (old ∷ before) (x ∷ mid) (new ∷ after) a b =
-      (read-then most (omega arith) a.0 b.0, stayed-then before mid after a.1 b.1)
+      (before mid after : List SeatOf) → All (IsMine m) before → HaveStayed before mid
+      → HaveOnlyRead m mid after → HaveOnlyRead m before after
+  stayed-then [] [] [] mine a b = tt
+  stayed-then [] [] (new ∷ after) mine a b = absurd b
+  stayed-then [] (x ∷ mid) after mine a b = absurd a
+  stayed-then (old ∷ before) [] after mine a b = absurd a
+  stayed-then (old ∷ before) (x ∷ mid) [] mine a b = absurd b
+  stayed-then (old ∷ before) (x ∷ mid) (new ∷ after) mine a b = (
+    read-then most (All-head (IsMine m) old before mine) (omega arith) a.0 b.0,
+    stayed-then before mid after (All-tail (IsMine m) old before mine) a.1 b.1,
+  )
 
   then-stayed :
-      (before mid after : List SeatOf) → HaveOnlyRead m before mid → HaveStayed mid after
-      → HaveOnlyRead m before after
-  then-stayed [] [] [] a b = tt
-  then-stayed [] [] (new ∷ after) a b = absurd b
-  then-stayed [] (x ∷ mid) after a b = absurd a
-  then-stayed (old ∷ before) [] after a b = absurd a
-  then-stayed (old ∷ before) (x ∷ mid) [] a b = absurd b
-  then-stayed (old ∷ before) (x ∷ mid) (new ∷ after) a b =
-      (read-then most (omega arith) a.0 b.0, then-stayed before mid after a.1 b.1)
+      (before mid after : List SeatOf) → All (IsMine m) before → HaveOnlyRead m before mid
+      → HaveStayed mid after → HaveOnlyRead m before after
+  then-stayed [] [] [] mine a b = tt
+  then-stayed [] [] (new ∷ after) mine a b = absurd b
+  then-stayed [] (x ∷ mid) after mine a b = absurd a
+  then-stayed (old ∷ before) [] after mine a b = absurd a
+  then-stayed (old ∷ before) (x ∷ mid) [] mine a b = absurd b
+  then-stayed (old ∷ before) (x ∷ mid) (new ∷ after) mine a b = (
+    read-then most (All-head (IsMine m) old before mine) (omega arith) a.0 b.0,
+    then-stayed before mid after (All-tail (IsMine m) old before mine) a.1 b.1,
+  )
 
   -- seats that have settled,
   pub settled-read :
-      {size : ℕ} (before first : List SeatOf) → HaveSettled m before first size
-      → HaveOnlyRead m before first
-  settled-read before first s =
-      stayed-then before first first (have-stayed _ before first s.each)
+      {size : ℕ} (before first : List SeatOf) → All (IsMine m) before
+      → HaveSettled m before first size → HaveOnlyRead m before first
+  settled-read before first mine s =
+      stayed-then before first first mine (have-stayed _ before first s.each)
       (have-none first (each-mine m _ before first s.each))
 
   -- of which then one has read,
   pub walked-read :
       {size : ℕ} (before front back : List SeatOf) (walker walker' : SeatOf)
+      → All (IsMine m) before
       → HaveSettled m before (front ++ walker ∷ back) size → HasOnlyRead m walker walker' most
       → HaveOnlyRead m before (front ++ walker' ∷ back)
-  walked-read before front back walker walker' s read =
-      stayed-then before (front ++ walker ∷ back) (front ++ walker' ∷ back)
+  walked-read before front back walker walker' mine s read =
+      stayed-then before (front ++ walker ∷ back) (front ++ walker' ∷ back) mine
       (have-stayed _ before (front ++ walker ∷ back) s.each)
       (have-walked front back walker walker'
       (each-mine m _ before (front ++ walker ∷ back) s.each) read)
 
   -- and that have settled again
   pub again-read :
-      {size : ℕ} (before second after : List SeatOf) → HaveOnlyRead m before second
+      {size : ℕ} (before second after : List SeatOf) → All (IsMine m) before
+      → HaveOnlyRead m before second
       → HaveSettled m second after size → HaveOnlyRead m before after
-  again-read before second after read t =
-      then-stayed before second after read (have-stayed _ second after t.each)
+  again-read before second after mine read t =
+      then-stayed before second after mine read (have-stayed _ second after t.each)
 
   -- they are the map's still
   pub read-mine :

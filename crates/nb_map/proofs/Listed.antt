@@ -1,12 +1,12 @@
 -- A walk lists the entries that it shows.
-use Rattle.std.proofs.Common.{◌≡◌, ◌∙◌, ℕ, Bool, true, false, List, [], ◌∷◌, ◌++◌, reverse, None, Some, ap, refl, subst, sym, arith}
+use Rattle.std.proofs.Common.{◌≡◌, ◌∙◌, ℕ, Bool, true, false, List, [], ◌∷◌, ◌++◌, reverse, None, Some, ap, refl, subst, sym}
 use Rattle.std.specs.List.{All}
 use Rattle.std.proofs.lemmas.List.{reverse-append}
 use Rattle.std.proofs.lemmas.List.Elements.{All-cons, All-nil}
 use Rattle.nb_core.specs.declared.calls.Call.{Call}
 use Rattle.nb_core.specs.declared.calls.Reply.{Reply}
-use Rattle.nb_map.proofs.Crowding.{asks_add_up}
-use Rattle.nb_map.proofs.Made.{begins}
+use Rattle.nb_map.proofs.Logged.{worked-uncounted}
+use Rattle.nb_map.proofs.Made.{made-within}
 use Rattle.nb_map.proofs.Swept.{HasSweptTo, come-walked, counted-reads, far-reads, swept-missed, swept-read}
 use Rattle.nb_map.proofs.Walked.{held-since}
 use Rattle.nb_map.proofs.WholeWalk.{whole_walk}
@@ -49,18 +49,17 @@ module _ {m : MapOf} {before : SeatOf} (mine : IsMine m before) where
       → HasSweptTo m before Lists [] now walk entries
       → HasOnlyRead m before now (walk_steps m.chain.shape)
   list-read {now} {walk} sweep =
-      let steps = (sweep.come.steps 0).1 in
       let reads = lists-reads sweep.swept in
+      let same = sweep.come.count ∙ counted-reads sweep.calls before.count reads in
       record {
         made = sweep.calls;
         reads = reads;
         logged = sweep.come.logged;
-        later = record { number = steps.grown.number; seen = begins steps.grown };
-        claims = λ calls asked.
-            asks_add_up.more mine.chain.plan (λ k filled. filled) (λ fills. absurd cc) asked
-            (sweep.come.steps 0);
-        short = omega (arith, steps.few, steps.grown.steps, far-reads m before now walk.place sweep.calls reads);
-        count = sweep.come.count ∙ counted-reads sweep.calls before.count reads;
+        worked = λ key. worked-uncounted
+            (made-within _ _ (far-reads m before now walk.place sweep.calls reads)
+            (sweep.come.steps key).1)
+            same;
+        count = same;
         own = sweep.come.mine;
       }
 

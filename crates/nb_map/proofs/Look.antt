@@ -1,5 +1,5 @@
 -- A look at how full a map is.
-use Rattle.std.proofs.Common.{◌≡◌, ◌∙◌, ℕ, suc, ◌==◌, ◌<◌, ◌≤◌, [], subst}
+use Rattle.std.proofs.Common.{◌≡◌, ◌∙◌, ℕ, suc, ◌==◌, ◌<◌, ◌≤◌, [], subst, sym}
 use Rattle.nb_core.proofs.Theorems.{linked}
 use Rattle.nb_core.specs.Plans.{generations_of}
 use Rattle.nb_table.specs.Chains.{Grown, seen_by}
@@ -20,6 +20,13 @@ top-within m {seat} top mine is =
     let there = (linked m.chain.shape own.plan seat.chain.seen own.legal).top in
     subst (λ g. g < generations_of m.chain.shape) is
     (table-within m.chain seat.chain own (seen_by m.chain.shape seat.chain).top there)
+
+-- what the look found, the seat remembers
+pub top-kept :
+    {m : MapOf} {before after : SeatOf} {top : ℕ} → HasSeenTop m before after top
+    → HasSeenTop m before after after.chain.top
+top-kept {m} {before} {after} looked =
+    subst (HasSeenTop m before after) (sym looked.remembered) looked
 
 -- the top table first, and then the slots
 pub sampled-all :

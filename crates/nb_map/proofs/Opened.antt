@@ -10,11 +10,11 @@ use Rattle.std.specs.Prelude.{nat_lt}
 use Rattle.std.specs.Set.{distinct_count, is_member, unique_keys}
 use Rattle.std.proofs.lemmas.Bool.{cases_Bool, eq-eqb, eqb-true, ltb-true, ne_eqb, or_left, or_right}
 use Rattle.std.proofs.lemmas.List.{append-nil, map-append}
-use Rattle.std.proofs.lemmas.List.Elements.{All-append, All-cons, All-head, All-nil, All-tail, All-weaker}
+use Rattle.std.proofs.lemmas.List.Elements.{All-append, All-cons, All-head, All-map, All-nil, All-tail, All-weaker}
 use Rattle.std.proofs.lemmas.List.Sums.{sum_by-cons}
 use Rattle.std.proofs.lemmas.List.FromFn.{length-map-range_with_len}
 use Rattle.std.proofs.lemmas.Map.Made.{is_member-filter}
-use Rattle.nb_core.proofs.Seating.{All-left, All-numbered, All-right}
+use Rattle.nb_core.proofs.Seating.{All-left, All-numbered, All-right, All-unmap}
 use Rattle.nb_core.specs.History.{key_of_call}
 use Rattle.nb_core.specs.Log.{Entry, Numbers, calls_of, log_of, map_after, map_of_log}
 use Rattle.nb_core.specs.Meaning.{is_win_of_another, passed_over}
@@ -25,7 +25,8 @@ use Rattle.nb_core.specs.declared.calls.Reply.{Reply}
 use Rattle.nb_core.specs.declared.events.Event.{Event}
 use Rattle.nb_core.specs.declared.events.Event.TheVariants.{Claim, Read, Won}
 use Rattle.nb_core.specs.declared.numbers.TheConstants.{VALUE_MAX}
-use Rattle.nb_table.specs.Chains.{SeenBy, own_events}
+use Rattle.nb_table.specs.Chains.{KnowsTop, SeenBy, own_events}
+use Rattle.nb_table.specs.Settling.{caught_up}
 use Rattle.nb_table.specs.Views.{HasSeen}
 use Rattle.nb_map.proofs.Alone.{all-its, entries-by, entry_by, seat-numbered, whole-is}
 use Rattle.nb_map.proofs.Crowding.{asks_add_up, crowded_by_calls}
@@ -386,6 +387,15 @@ module _
       ∙ sym (map-append number front (first ∷ [])) ∙ sym (ap (map number) new)
       ∙ numbers-new m (range_with_len 0 m.chain.shape.seats)
 
+  -- to settle is to learn of the top table
+  tops : All (λ seat. KnowsTop m.chain.shape seat.chain) after
+  tops =
+      let p = m.chain.shape in
+      All-unmap (KnowsTop p) (λ (seat : SeatOf). seat.chain) after
+      (subst (All (KnowsTop p)) (sym s.tables.is)
+      (All-map (KnowsTop p) (caught_up p s.tables.history) (map (λ seat. seat.chain) seats)
+      (λ i d within. refl)))
+
   pub begun-with :
       map (λ made. made.0) made ≡ puts_of entries → HaveBegunWith m (map_of_entries entries) after
   begun-with puts = record {
@@ -398,6 +408,7 @@ module _
     claimed = caught-claims m (log_of s.tables.history) entries
         (map put_entry (numbers.entries (map_of_entries entries)))
         s.left.left.plan (content-filled (reverse entries)) seats after s.each claimed;
+    tops = tops;
   }
 
   -- the seat of each number has claimed slots for these entries alone

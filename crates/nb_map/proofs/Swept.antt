@@ -283,15 +283,15 @@ module _ {m : MapOf} {before : SeatOf} (mine : IsMine m before) where
       {now : SeatOf} {walk : WalkOf} → HasBegunWalk m before now walk
       → HasComeTo m before now walk [] []
   come-begun {now} {walk} begun = record {
-    mine = begun.own;
+    mine = begun.top.own;
     is_walk = begun.is_walk;
     begun = subst (λ (walk : WalkOf). IsBeginning (log before) (log walk.begun))
         (sym begun.begun)
-        (record { later = begun.logged.later; is = begun.logged.grown });
+        (record { later = begun.top.logged.later; is = begun.top.logged.grown });
     underway = begun.underway;
-    logged = begun.logged;
-    steps = λ key. ([], made-within 1 _ (omega arith) (made-quiet m.chain.shape (Get key) begun.grows));
-    count = begun.count ∙ sym (counted-begun before.count);
+    logged = begun.top.logged;
+    steps = λ key. ([], made-within 1 _ (omega arith) (made-quiet m.chain.shape (Get key) begun.top.grows));
+    count = begun.top.count ∙ sym (counted-begun before.count);
   }
 
   -- it has gone on

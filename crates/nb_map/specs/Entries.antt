@@ -1,17 +1,17 @@
 -- All entries of a map at rest: what all its seats know once the entries are listed.
 use Rattle.std.specs.List.{AllZip, IsDistinct}
-use Rattle.std.specs.Prelude.{◌≡◌, ◌≤◌, ◌+◌, ◌==◌, ◌++◌, ◌∷◌, ℕ, List, Option, All, map, reverse}
+use Rattle.std.specs.Prelude.{◌≡◌, ◌==◌, ◌++◌, ◌∷◌, ℕ, List, Option, All, map, reverse}
 use Rattle.nb_core.specs.Log.{Entry, IsReplayed, Numbers, map_of_log}
+use Rattle.nb_core.specs.declared.calls.Call.TheVariants.{Get}
 use Rattle.nb_core.specs.declared.calls.Call.{Call}
 use Rattle.nb_core.specs.declared.calls.Reply.{Reply}
 use Rattle.nb_map.specs.Bulk.{read_as, walk_steps}
-use Rattle.nb_map.specs.Crowding.{HasAskedFor}
 use Rattle.nb_map.specs.Ending.{EndedOf, EndedWith, map_left}
 use Rattle.nb_map.specs.Logs.{HasLogged, log}
-use Rattle.nb_map.specs.Maps.{IsMine, MapOf, SeatOf}
+use Rattle.nb_map.specs.Maps.{HasWorked, IsMine, MapOf, SeatOf}
 use Rattle.nb_map.specs.Opening.{map_of_entries}
 use Rattle.nb_map.specs.Settling.{HaveSettled}
-use Rattle.nb_map.specs.Walks.{HasShownAll, IsLater}
+use Rattle.nb_map.specs.Walks.{HasShownAll}
 
 -- ---- reads alone
 
@@ -24,14 +24,10 @@ pub record HasOnlyRead (m : MapOf) (before after : SeatOf) (most : ℕ) : Type 0
   pub made : List (Call × Reply)
   pub reads : All IsRead made
   pub logged : HasLogged before after made
-  -- so a walk of the seat goes on past them
-  pub later : IsLater before after
-  -- for them it has claimed no slot
-  pub claims :
-      (calls : List Call) → HasAskedFor m.chain.shape calls before.chain
-      → HasAskedFor m.chain.shape calls after.chain
+  -- its steps are such as a read may make, of any key, as those of a walk are: it installs no table,
+  -- and claims a slot only for a key that has one in the table below
+  pub worked : (key : ℕ) → HasWorked m (Get key) before after most
   -- it made no step on the counter
-  pub short : after.chain.steps ≤ before.chain.steps + most
   pub count : after.count ≡ before.count
   pub own : IsMine m after
 

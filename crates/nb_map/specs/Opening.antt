@@ -4,6 +4,7 @@ use Rattle.std.specs.List.{range_with_len}
 use Rattle.std.specs.Prelude.{◌≡◌, ◌-◌, ◌<◌, ℕ, List, All, length, map, reverse}
 use Rattle.nb_core.specs.Log.{Entry, IsReplayed, Numbers, map_of_log}
 use Rattle.nb_core.specs.Plans.{Plan, generations_of, size_of}
+use Rattle.nb_table.specs.Chains.{KnowsTop}
 use Rattle.nb_map.specs.Bulk.{put_entry}
 use Rattle.nb_map.specs.Crowding.{HasAskedFor}
 use Rattle.nb_map.specs.Handles.{HandleOf, seats_of}
@@ -19,7 +20,8 @@ abbrev pub IsTooSmallFor : Plan → Numbers → Type 0
 IsTooSmallFor p content = size_of p (generations_of p - 1) < length (numbers.entries content)
 
 -- The seats of a new map, numbered by their places. Their logs are one and the same log, which
--- leaves this map. They have claimed slots for its keys alone, so every other slot is free.
+-- leaves this map. They have claimed slots for its keys alone, so every other slot is free. Each
+-- remembers the top table of what it has seen, so its calls begin there.
 pub record HaveBegunWith (m : MapOf) (content : Numbers) (seats : List SeatOf) : Type 0 where
   pub numbered : map (λ seat. seat.chain.number) seats ≡ range_with_len 0 m.chain.shape.seats
   pub whole : List Entry
@@ -29,6 +31,7 @@ pub record HaveBegunWith (m : MapOf) (content : Numbers) (seats : List SeatOf) :
   pub claimed :
       All (λ seat. HasAskedFor m.chain.shape (map put_entry (numbers.entries content)) seat.chain)
       seats
+  pub tops : All (λ seat. KnowsTop m.chain.shape seat.chain) seats
 
 -- the handle has all seats of a new map of this shape, which begins as this map
 pub record BeginsWith (p : Plan) (content : Numbers) (handle : HandleOf) : Type 0 where

@@ -133,12 +133,8 @@ pub record HasBegunWalk (map : MapOf) (before after : SeatOf) (walk : WalkOf) : 
   pub is_walk : IsWalkOf map after walk
   -- it has shown nothing so far
   pub underway : IsUnderway map after walk []
-  -- it is no call of the log
-  pub logged : HasLogged before after []
-  -- it makes one step on the tables, a load of the top word, and none on the counter
-  pub grows : Extended map.chain.shape before.chain after.chain [] 1
-  pub count : after.count ≡ before.count
-  pub own : IsMine map after
+  -- its one step is a look at the top word
+  pub top : HasSeenTop map before after after.chain.top
 
 -- what the beginning of a walk at this slot of the top table promises
 pub record HasBegunWalkAt (map : MapOf) (before after : SeatOf) (slot : ℕ)
@@ -148,12 +144,8 @@ pub record HasBegunWalkAt (map : MapOf) (before after : SeatOf) (slot : ℕ)
   pub begun : at ≡ begun_at map after slot
   -- it is this seat's walk over this map
   pub is_walk : IfSome at (λ at. IsWalkOf map after (walk_from after at))
-  -- it is no call of the log
-  pub logged : HasLogged before after []
-  -- it makes one step on the tables, a load of the top word, and none on the counter
-  pub grows : Extended map.chain.shape before.chain after.chain [] 1
-  pub count : after.count ≡ before.count
-  pub own : IsMine map after
+  -- its one step is a look at the top word
+  pub top : HasSeenTop map before after after.chain.top
 
 -- what a call of a walk promises that goes no further than a bound: it shows this pair, or has come
 -- to the bound

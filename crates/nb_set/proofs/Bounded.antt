@@ -149,7 +149,7 @@ module _ (set : SetOf) (before : SeatOf) where
   pub far-begun :
       {now : SeatOf} {walk : WalkOf} → HasBegunWalk set before now walk
       → steps_of now ≤ steps_of before + far_steps now walk []
-  far-begun began = omega (arith, began.looked.step)
+  far-begun began = omega (arith, began.top.looked.step)
 
   -- it goes on
   far-walked :

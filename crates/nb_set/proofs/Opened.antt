@@ -141,6 +141,7 @@ begun-as set content m seats are begun =
           (λ k. keys k ∙ ap (λ (m : Numbers). contains_key m k) begun.leaves ∙ sym (are k));
       claimed = All-weaker _ (HasAskedFor set (map Add (numbers.keys content)))
           (asked-as set content m are) seats begun.claimed;
+      tops = begun.tops;
     }
 
 pub begins-as :

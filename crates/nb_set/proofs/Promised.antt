@@ -101,6 +101,7 @@ pub seen-top :
     → of_map.HasSeenTop set.map before after top → HasSeenTop set before after top
 seen-top {before = before} {after = after} looked = record {
   found = looked.found;
+  remembered = looked.remembered;
   complete = looked.complete;
   logged = logged-as looked.logged;
   looked = looked-once {before = before} {after = after} looked.grows looked.count;
@@ -139,14 +140,11 @@ met {before = before} {after = after} here = record {
 pub begun-walk :
     {set : SetOf} {before after : SeatOf} {walk : WalkOf}
     → of_map.HasBegunWalk set.map before after walk.map → HasBegunWalk set before after walk
-begun-walk {before = before} {after = after} began = record {
+begun-walk began = record {
   begun = ap (λ (walk : walks.WalkOf). walk.begun) began.begun;
   is_walk = began.is_walk;
   shown = record { pairs = []; keys = refl; is = began.underway };
-  logged = logged-as began.logged;
-  looked = looked-once {before = before} {after = after} began.grows began.count;
-  later = grown-later {before = before} {after = after} began.grows;
-  own = began.own;
+  top = seen-top began.top;
 }
 
 -- the keys of the pairs, with one more

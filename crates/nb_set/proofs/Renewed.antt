@@ -10,7 +10,7 @@ use Rattle.nb_map.specs.Handles as handles
 use Rattle.nb_map.specs.Renewing as of_map
 use Rattle.nb_set.specs.Ending.{EndedOf, set_left}
 use Rattle.nb_set.specs.Handles.{as_handle, seats_of}
-use Rattle.nb_set.specs.OfMap.{call_as, call_for}
+use Rattle.nb_set.specs.OfMap.{call_as}
 use Rattle.nb_set.specs.Renewing.{HasOnlyAsked, HasRenewed, HasTooMany, HaveOnlyAsked, IsAsk, IsKept}
 use Rattle.nb_set.specs.Sets.{SeatOf, SetOf}
 use Rattle.nb_set.proofs.Dealt.{ended-with}
@@ -61,9 +61,7 @@ only-asked read = record {
   made = map call_as read.made;
   asks = asks-as read.made read.reads;
   logged = logged-as read.logged;
-  later = read.later;
-  claims = λ calls asked. read.claims (map call_for calls) asked;
-  short = read.short;
+  worked = read.worked;
   count = read.count;
   own = read.own;
 }

@@ -42,7 +42,7 @@ module _ {F : Type 0} {set : SetOf} {Step : F → (k : ℕ) → Bool → F → T
   swept-later :
       {now : SeatOf} {walk : WalkOf} {calls : List (Call × Bool)} {shown : List ℕ} {f : F}
       → HasSwept set Step before first now walk calls shown f → IsLater before now
-  swept-later (Begun began) = began.later
+  swept-later (Begun began) = began.top.later
   swept-later (Kept swept k g on step) = later-more (swept-later swept) (walked-later on)
   swept-later (Unwanted swept k g on step went wrote) =
       later-more (swept-later swept) (later-more (walked-later on) (removed-later wrote))
@@ -51,7 +51,7 @@ module _ {F : Type 0} {set : SetOf} {Step : F → (k : ℕ) → Bool → F → T
   swept-logged :
       {now : SeatOf} {walk : WalkOf} {calls : List (Call × Bool)} {shown : List ℕ} {f : F}
       → HasSwept set Step before first now walk calls shown f → HasLogged before now calls
-  swept-logged (Begun began) = began.logged
+  swept-logged (Begun began) = began.top.logged
   swept-logged (Kept swept k g on step) = logs_add_up.more (swept-logged swept) on.asked.logged
   swept-logged (Unwanted swept k g on step went wrote) =
       logs_add_up.more (logs_add_up.more (swept-logged swept) on.asked.logged) wrote.answered
@@ -85,7 +85,7 @@ module _ {F : Type 0} {set : SetOf} {Step : F → (k : ℕ) → Bool → F → T
       → IsBeginning (log before) (log (begun walk))
   swept-begun (Begun began) =
       subst (λ seat. IsBeginning (log before) (log seat)) (sym began.begun)
-      (record { later = began.logged.later; is = began.logged.grown })
+      (record { later = began.top.logged.later; is = began.top.logged.grown })
   swept-begun (Kept swept k g on step) =
       subst (λ seat. IsBeginning (log before) (log seat)) (sym on.begun) (swept-begun swept)
   swept-begun (Unwanted swept k g on step went wrote) =
@@ -128,7 +128,7 @@ module _ {F : Type 0} {set : SetOf} {Step : F → (k : ℕ) → Bool → F → T
       {now : SeatOf} {walk : WalkOf} → HasBegunWalk set before now walk
       → HasSweptTo set Step before first now walk first
   sweep-begun began = record {
-    own = began.own;
+    own = began.top.own;
     is_walk = began.is_walk;
     calls = [];
     shown = [];

@@ -68,6 +68,8 @@ pub record HasLookedUp (set : SetOf) (key : ℕ) (before after : SeatOf) (found 
 pub record HasSeenTop (set : SetOf) (before after : SeatOf) (top : ℕ) : Type 0 where
   -- so many the seat then knows to be complete
   pub found : generation_of set after ≡ top
+  -- and remembers, so that its calls begin with the next one
+  pub remembered : after.chain.top ≡ top
   -- and they are
   pub complete :
       (g : ℕ) → g < top
@@ -112,12 +114,8 @@ pub record HasBegunWalk (set : SetOf) (before after : SeatOf) (walk : WalkOf) : 
   pub begun : walks.begun walk ≡ after
   pub is_walk : IsWalkOf set after walk
   pub shown : HasShown set after walk []
-  -- it is no call of the log, and makes one step, a look
-  pub logged : HasLogged before after []
-  pub looked : HasLookedOnce before after
-  -- the seat has forgotten nothing, so its other walks go on, and is still the set's
-  pub later : IsLater before after
-  pub own : IsMine set after
+  -- its one step is a look at the tables
+  pub top : HasSeenTop set before after after.chain.top
 
 -- what a call of a walk promises, which shows this key next, or ends the walk
 pub record HasWalkedOn (set : SetOf) (before after : SeatOf) (walk walk' : WalkOf)

@@ -1,14 +1,13 @@
 -- A set is made anew: what its handle knows then, and what a refused renewal leaves.
 use Rattle.std.specs.List.{AllZip}
-use Rattle.std.specs.Prelude.{◌≡◌, ◌≤◌, ◌+◌, ◌⊎◌, ℕ, Bool, List, All}
+use Rattle.std.specs.Prelude.{◌≡◌, ◌⊎◌, ℕ, Bool, List, All}
 use Rattle.nb_core.specs.Plans.{Plan}
 use Rattle.nb_map.specs.Bulk.{walk_steps}
 use Rattle.nb_set.specs.Ending.{EndedOf, EndedWith, set_left}
 use Rattle.nb_set.specs.Handles.{HandleOf, IsSameSet, seats_of}
 use Rattle.nb_set.specs.Log.{Call, Contains}
-use Rattle.nb_set.specs.Opening.{BeginsWith, HasAskedFor, IsTooSmallFor}
-use Rattle.nb_set.specs.Sets.{HasLogged, IsMine, SeatOf, SetOf, shape_of, steps_of}
-use Rattle.nb_set.specs.Walks.{IsLater}
+use Rattle.nb_set.specs.Opening.{BeginsWith, IsTooSmallFor}
+use Rattle.nb_set.specs.Sets.{HasLogged, HasWorked, IsMine, SeatOf, SetOf, shape_of}
 
 -- ---- a set made anew
 
@@ -36,11 +35,9 @@ pub record HasOnlyAsked (set : SetOf) (before after : SeatOf) (most : ℕ) : Typ
   pub made : List (Call × Bool)
   pub asks : All IsAsk made
   pub logged : HasLogged before after made
-  -- so a walk of the seat goes on past them
-  pub later : IsLater before after
-  -- for them it has claimed no slot
-  pub claims : (calls : List Call) → HasAskedFor set calls before → HasAskedFor set calls after
-  pub short : steps_of after ≤ steps_of before + most
+  -- its steps are such as a `contains` may make, of any key, as those of a walk are: it installs no
+  -- table, and claims a slot only for a key that has one in the table below
+  pub worked : (key : ℕ) → HasWorked set (Contains key) before after most
   -- it made no step on the counter
   pub count : after.count ≡ before.count
   pub own : IsMine set after

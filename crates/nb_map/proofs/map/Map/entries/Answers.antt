@@ -13,7 +13,7 @@ returns-in_err-size-clause-read c =
 
 pub returns-in_err-entries-clause-read : goal.returns-in_err-entries-clause-read
 returns-in_err-entries-clause-read c =
-    settled-read c.args.self.now c.args.seats.now.items c.settle.new.seats.items
+    settled-read c.args.self.now c.args.seats.now.items c.settle.new.seats.items c.requires.own
     c.in_ok-size.ensures.settled
 
 pub list-listed-requires-clause-own : goal.list-listed-requires-clause-own
@@ -28,7 +28,7 @@ returns-in_err-listed-clause-read c =
     c.in-Some.ensures.items c.in_ok-size.ensures.settled in
     subst (HaveOnlyRead m c.args.seats.now.items) (sym c.push_reserved.ensures.items)
     (walked-read m c.args.seats.now.items c.pop.new.self.items [] c.in-Some.walker
-    c.list-listed.new.seat first c.list-listed.ensures.read)
+    c.list-listed.new.seat c.requires.own first c.list-listed.ensures.read)
 
 pub returns-in_err-listed-clause-own : goal.returns-in_err-listed-clause-own
 returns-in_err-listed-clause-own c =
@@ -42,7 +42,7 @@ settle-requires-2 c =
     c.in-Some.ensures.items c.in_ok-size.ensures.settled in
     let read = subst (HaveOnlyRead m c.args.seats.now.items) (sym c.push_reserved.ensures.items)
     (walked-read m c.args.seats.now.items c.pop.new.self.items [] c.in-Some.walker
-    c.list-listed.new.seat first c.list-listed.ensures.read) in
+    c.list-listed.new.seat c.requires.own first c.list-listed.ensures.read) in
     record { own = read-mine m c.args.seats.now.items c.push_reserved.new.self.items read }
 
 pub returns-in_default-settle-clause-read : goal.returns-in_default-settle-clause-read
@@ -53,7 +53,7 @@ returns-in_default-settle-clause-read c =
     subst (HaveOnlyRead m c.args.seats.now.items)
     (sym (c.in_default-settle.ensures.back ∙ c.push_reserved.ensures.items))
     (walked-read m c.args.seats.now.items c.pop.new.self.items [] c.in-Some.walker
-    c.list-listed.new.seat first c.list-listed.ensures.read)
+    c.list-listed.new.seat c.requires.own first c.list-listed.ensures.read)
 
 pub returns-clause-listed : goal.returns-clause-listed
 returns-clause-listed c =
@@ -73,7 +73,7 @@ returns-clause-read c =
     c.in-Some.ensures.items c.in_ok-size.ensures.settled in
     let again = subst (λ seats. HaveSettled m seats c.settle-2.new.seats.items c.in-Ok.field-0)
     c.push_reserved.ensures.items c.in-Ok.ensures.settled in
-    again-read m c.args.seats.now.items _ c.settle-2.new.seats.items
+    again-read m c.args.seats.now.items _ c.settle-2.new.seats.items c.requires.own
     (walked-read m c.args.seats.now.items c.pop.new.self.items [] c.in-Some.walker
-    c.list-listed.new.seat first c.list-listed.ensures.read)
+    c.list-listed.new.seat c.requires.own first c.list-listed.ensures.read)
     again

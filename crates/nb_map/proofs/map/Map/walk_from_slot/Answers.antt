@@ -2,7 +2,7 @@ use Rattle.std.proofs.Common.{◌≡◌, ℕ, ◌<◌, Some, ap, subst, sym, ari
 use Rattle.std.proofs.lemmas.Bool.Decides.{nat_tests}
 use Rattle.nb_core.specs.Plans.{generations_of, size_of}
 use Rattle.nb_table.specs.Chains.{seen_by}
-use Rattle.nb_map.proofs.Look.{top-within}
+use Rattle.nb_map.proofs.Look.{top-kept, top-within}
 use Rattle.nb_map.proofs.WholeWalk.{begun-at}
 use Rattle.nb_map.specs.Maps.{MapOf, SeatOf}
 use Rattle.nb_map.specs.Promises.{HasBegunWalkAt}
@@ -46,8 +46,5 @@ returns-then-slot-size_of c =
     (record {
       begun = has-slot m seat slot low;
       is_walk = begun-at m looked.own slot low;
-      logged = looked.logged;
-      grows = looked.grows;
-      count = looked.count;
-      own = looked.own;
+      top = top-kept looked;
     })

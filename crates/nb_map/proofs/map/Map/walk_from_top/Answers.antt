@@ -1,4 +1,5 @@
 use Rattle.std.proofs.Common.{refl, subst}
+use Rattle.nb_map.proofs.Look.{top-kept}
 use Rattle.nb_map.proofs.WholeWalk.{begun-walk}
 use Rattle.nb_map.specs.Promises.{HasBegunWalk}
 use Rattle.nb_map.specs.Walks.IsUnderway.{Begun}
@@ -16,8 +17,5 @@ returns c =
       begun = refl;
       is_walk = begun-walk m looked.own;
       underway = Begun looked.own;
-      logged = looked.logged;
-      grows = looked.grows;
-      count = looked.count;
-      own = looked.own;
+      top = top-kept looked;
     })

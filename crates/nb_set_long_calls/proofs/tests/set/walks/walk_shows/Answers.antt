@@ -51,10 +51,10 @@ or-swap false false = refl
 
 pub loop-key-init : goal.loop-key-init
 loop-key-init c = record {
-  own = c.walk-walk.ensures.own;
+  own = c.walk-walk.ensures.top.own;
   is_walk = c.walk-walk.ensures.is_walk;
   quiet = subst (λ seat. HasLogged c.args.seat.now seat []) (sym c.walk-walk.ensures.begun)
-      c.walk-walk.ensures.logged;
+      c.walk-walk.ensures.top.logged;
   keys = [];
   shown = c.walk-walk.ensures.shown;
   of_them = refl;
@@ -67,7 +67,7 @@ loop-key-preserved c =
     let key = c.in-Some.key in
     past c.next_key-in-Some.new.seat c.next_key-in-Some.ensures.own
     (walk_lasts.later set (Contains 0) (c.next_key-in-Some.ensures.worked 0))
-    (past c.walk-beside.new.seat c.walk-beside.ensures.own c.walk-beside.ensures.later
+    (past c.walk-beside.new.seat c.walk-beside.ensures.top.own c.walk-beside.ensures.top.later
     (past c.generation.new.seat c.generation.ensures.own c.generation.ensures.later
     (past c.size_estimate.new.seat c.size_estimate.ensures.own c.size_estimate.ensures.later
     (past c.contains.new.seat c.contains.ensures.own
