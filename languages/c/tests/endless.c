@@ -17,7 +17,7 @@
 #include <time.h>
 #include <unistd.h>
 
-enum { MOST_WORKERS = 300, SHARED_KEYS = 100, KEPT = 40, PAIRS = 1000, PUBLISHED = 2000, OWN = 100000 };
+enum { MOST_WORKERS = 300, ARRIVE = 40, SHARED_KEYS = 100, KEPT = 40, PAIRS = 1000, PUBLISHED = 2000, OWN = 100000 };
 
 static double seconds = 0.35;
 
@@ -30,12 +30,14 @@ static uint64_t random_from(uint64_t *state)
     return mixed ^ mixed >> 31;
 }
 
-static double now(void)
+static double time_of(clockid_t clock)
 {
     struct timespec at;
-    clock_gettime(CLOCK_MONOTONIC, &at);
+    EXPECT(clock_gettime(clock, &at) == 0);
     return (double)at.tv_sec + (double)at.tv_nsec * 1e-9;
 }
+
+static double now(void) { return time_of(CLOCK_MONOTONIC); }
 
 static double ends_at;
 static void begin_clock(void) { ends_at = now() + seconds; }
@@ -351,7 +353,7 @@ static void each_call_replies_as_a_plain_list_does(void)
         memset(&model, 0, sizeof model);
         for (uint64_t turn = 0; turn < 20000; turn++) {
             const uint64_t choice = random_from(&state), large = choice % 8 ? choice % 4 : SAMVOLIP_VALUE_MAX - choice / 8 % 2;
-            const size_t i = (turn / 16 + random_from(&state) % 200) % MODEL_KEYS;
+            const size_t i = choice / 64 % 16 ? (turn / 16 + random_from(&state) % 200) % MODEL_KEYS : choice / 1024 % 4;
             const bool shrinks = turn / 2500 % 2 && choice / 8 % 2;
             if (shrinks)
                 write_one(map, random_from(&state) % MODEL_KEYS, 5, 1);
@@ -491,11 +493,11 @@ static void a_renewal_by_hand_makes_room(void)
 static void a_renewal_by_hand_is_made(void)
 {
     samvolip_map *map = open_map(1, 1, 0);
-    for (uint64_t key = 0; key < 1100; key++) {
+    for (uint64_t key = 0; key < 300; key++) {
         EXPECT(samvolip_map_renew(map, 1) == SAMVOLIP_OK && samvolip_map_renew(map, 0) == SAMVOLIP_OK);
         EXPECT(samvolip_map_put(map, key, key, NULL) == SAMVOLIP_ABSENT);
     }
-    EXPECT(size_of(map) == 1100 && figures_of(map).refused == 0);
+    EXPECT(size_of(map) == 300 && figures_of(map).refused == 0);
     samvolip_map_free(map);
 }
 
@@ -658,6 +660,31 @@ static void seats_go_from_thread_to_thread(void)
     samvolip_map_free(map);
 }
 
+/* The first thread renews, while the others come one after another, and stay until all are there. */
+static atomic_uint ready;
+static void renew_or_arrive(struct worker *worker)
+{
+    if (worker->number > 0)
+        ready++;
+    while (ready < ARRIVE - 1)
+        if (worker->number == 0)
+            EXPECT(samvolip_map_renew(worker->map, 0) == SAMVOLIP_OK);
+        else
+            churn(worker);
+}
+
+static void threads_arrive_during_renewals(void)
+{
+    for (begin_clock(); goes_on();) {
+        samvolip_map *map = open_map(1, ARRIVE, 0);
+        ready = 0;
+        begin_work(map, ARRIVE, renew_or_arrive);
+        end_work(ARRIVE);
+        all_is_there(map, ARRIVE, 0);
+        samvolip_map_free(map);
+    }
+}
+
 /* Threads do what they are told one after another. */
 static pthread_barrier_t turns;
 static void look_in_turn(struct worker *worker)
@@ -678,6 +705,10 @@ static void look_in_turn(struct worker *worker)
 static void a_seat_that_is_left_is_taken(void)
 {
     samvolip_map *map = open_map(1, 2, 0);
+    for (int turn = 0; turn < 3; turn++) {
+        EXPECT(figures_of(map).own_threads == 1);
+        samvolip_map_leave(map);
+    }
     EXPECT(pthread_barrier_init(&turns, NULL, 3) == 0);
     begin_work(map, 3, look_in_turn);
     end_work(3);
@@ -752,42 +783,42 @@ static void no_reader_sees_what_was_before(void)
     }
 }
 
-/* The longest time between two reads, and between two writes, while a large map is renewed. */
+/* For how long the thread that renews a map worked at most between two reads, by its own clock. */
 static atomic_bool is_renewing;
-static _Atomic double longest[2];
-static void call_meanwhile(struct worker *worker)
+static clockid_t renewing;
+static _Atomic double longest;
+static void read_meanwhile(struct worker *worker)
 {
-    double last = now();
-    while (atomic_load(&is_renewing)) {
-        if (worker->number)
-            EXPECT(samvolip_map_put(worker->map, 7, 7, NULL) == SAMVOLIP_PRESENT);
-        else
-            EXPECT(samvolip_map_contains(worker->map, 7) == 1);
-        const double next = now();
-        if (next - last > longest[worker->number])
-            longest[worker->number] = next - last;
-        last = next;
+    for (double last = time_of(renewing), next; is_renewing; last = next) {
+        EXPECT(samvolip_map_contains(worker->map, 7) == 1);
+        next = time_of(renewing);
+        longest = next - last > longest ? next - last : longest;
+        ready = 1;
     }
 }
 
-/* It may be that the system gives the reader no processor, but not each time. */
+/* The copy is most of a renewal, and one thread makes it alone: the reader has no seat to help by. It may be that the system gives the
+   reader no processor meanwhile, but not each time. */
 static void reads_go_on_during_a_renewal(void)
 {
-    const uint64_t keys = IS_SANITIZED ? 50000 : 500000;
-    samvolip_map *map = open_map(keys, 4, 0);
+    samvolip_map *map = open_map(300000, 1, 0);
     bool went_on = false;
-    for (uint64_t key = 0; key < keys; key++)
+    EXPECT(pthread_getcpuclockid(pthread_self(), &renewing) == 0);
+    for (uint64_t key = 0; key < 300000; key++)
         EXPECT(samvolip_map_put(map, key, key, NULL) == SAMVOLIP_ABSENT);
-    for (int turn = 0; turn < 100 && !went_on; turn++) {
-        longest[0] = longest[1] = 0;
-        atomic_store(&is_renewing, true);
-        begin_work(map, 2, call_meanwhile);
-        for (double begun_at = now(); now() < begun_at + 0.002;)
-            continue;
+    for (int turn = 0; turn < 20 && !went_on; turn++) {
+        longest = 0;
+        ready = 0;
+        is_renewing = true;
+        begin_work(map, 1, read_meanwhile);
+        while (!ready)
+            sched_yield();
+        const double begun_at = time_of(renewing);
         EXPECT(samvolip_map_renew(map, 0) == SAMVOLIP_OK);
-        atomic_store(&is_renewing, false);
-        end_work(2);
-        went_on = longest[0] < longest[1] / 3;
+        const double took = time_of(renewing) - begun_at;
+        is_renewing = false;
+        end_work(1);
+        went_on = longest < took / 4;
     }
     EXPECT(went_on);
     samvolip_map_free(map);
@@ -836,6 +867,8 @@ static void ask_or_write(struct worker *worker)
 static void a_snapshot_is_of_one_moment(void)
 {
     samvolip_map *map = open_map(1, 3, 0);
+    for (uint64_t key = OWN / 2; key < OWN / 2 + 10000; key++) /* a table of many parts */
+        EXPECT(samvolip_map_put(map, key, key, NULL) == SAMVOLIP_ABSENT);
     work_by_the_clock(map, 4, ask_or_write);
     all_is_there(map, 4, 0);
     tell("snapshots", map, 4);
@@ -1164,7 +1197,6 @@ static void children_and_parents_go_on(void)
 /* Handlers add to a key of one map, and ask the other, which is cleared, for its size. */
 static samvolip_map *signalled, *asked;
 static atomic_ullong made, nested;
-static atomic_uint ready;
 static atomic_bool is_sent;
 
 /* In the middle of a call each other one is refused, of any map. */
@@ -1217,8 +1249,11 @@ static void call_between_signals(struct worker *worker)
     ready++;
     while (is_sent) {
         const uint64_t choice = random_from(&worker->state);
+        samvolip_map_walk *walk;
         churn(worker);
         EXPECT(samvolip_map_put(asked, choice % SHARED_KEYS, 0, NULL) >= 0);
+        EXPECT(samvolip_map_walk_begin(asked, &walk) == SAMVOLIP_OK);
+        samvolip_map_walk_end(walk);
         if (choice / 128 % 512 == 0)
             EXPECT(samvolip_map_clear(asked, NULL, NULL) == SAMVOLIP_OK);
         if (choice / 65536 % 512 == 0)
@@ -1268,22 +1303,33 @@ static void handle_at_the_end(int signal)
 
 static void call_and_end(struct worker *worker)
 {
-    for (unsigned i = 0; i < 8; i++)
-        EXPECT(samvolip_map_put(worker->map, 1, i, NULL) == SAMVOLIP_PRESENT);
+    EXPECT(samvolip_map_put(worker->map, 1, 1, NULL) == SAMVOLIP_PRESENT);
+    ready = 1;
 }
 
 static void handlers_call_while_threads_end(void)
 {
+    uint64_t state = 1;
+    unsigned ended = 0;
     asked = open_map(1, 2, 0);
     EXPECT(samvolip_map_put(asked, 1, 0, NULL) == SAMVOLIP_ABSENT);
     begin_handling(handle_at_the_end);
     for (begin_clock(); goes_on();) {
-        begin_work(asked, 3, call_and_end);
-        for (unsigned i = 0; i < 100; i++)
-            pthread_kill(workers[i % 3].thread, SIGUSR1);
-        end_work(3);
+        ready = 0;
+        begin_work(asked, 1, call_and_end);
+        while (!ready)
+            sched_yield();
+        for (unsigned i = 0; i < 30; i++) {
+            pthread_kill(workers[0].thread, SIGUSR1);
+            for (volatile uint64_t turns = random_from(&state) % 1000; turns > 0; turns--)
+                continue;
+        }
+        end_work(1);
+        ended++;
     }
     EXPECT(figures_of(asked).own_threads == 1);
+    if (is_told)
+        printf("threads that ended: %u\n", ended);
     samvolip_map_free(asked);
 }
 
@@ -1315,7 +1361,8 @@ static void fill(samvolip_map *map, uint64_t slots)
         }
     const uint64_t none = slots * 8;
     before = 99;
-    EXPECT(samvolip_map_add(map, none, 1, &before) == SAMVOLIP_E_OUT_OF_MEMORY && samvolip_map_put(map, none, 1, &before) == SAMVOLIP_E_OUT_OF_MEMORY);
+    EXPECT(samvolip_map_add(map, none, 1, &before) == SAMVOLIP_E_OUT_OF_MEMORY);
+    EXPECT(samvolip_map_put(map, none, 1, &before) == SAMVOLIP_E_OUT_OF_MEMORY);
     EXPECT(samvolip_map_fetch_max(map, none, 1, &before) == SAMVOLIP_E_OUT_OF_MEMORY && before == 99);
     EXPECT(samvolip_map_replace(map, none, 1, NULL) == SAMVOLIP_ABSENT && samvolip_map_remove(map, none, NULL) == SAMVOLIP_ABSENT);
     EXPECT(samvolip_map_compare_exchange(map, none, &before, NULL, &reply) == SAMVOLIP_OK && !reply.matched && !reply.had);
@@ -1339,12 +1386,19 @@ static void goes_on_after_it_was_full(samvolip_map *map, uint64_t slots)
     samvolip_map_free(map);
 }
 
+/* It grows as far as the old and the new table have room together, also where it asks for more. */
 static void memory_of_the_options_is_the_most(void)
 {
-    const samvolip_map_options options = {.room = 1, .memory = 16 * (2048 + 1024), .growth = 2, .threads = 3};
-    samvolip_map *map;
-    EXPECT(samvolip_map_open(&options, &map) == SAMVOLIP_OK);
-    goes_on_after_it_was_full(map, 2048);
+    const struct {
+        uint32_t growth;
+        uint64_t memory, slots;
+    } cases[] = {{2, 16 * (1024 + 2048), 2048}, {2, 16 * (512 + 2048) - 1, 1024}, {64, 16 * (1024 + 2048), 2048}};
+    for (int i = 0; i < 3; i++) {
+        const samvolip_map_options options = {.room = 1, .memory = cases[i].memory, .growth = cases[i].growth, .threads = 3};
+        samvolip_map *map;
+        EXPECT(samvolip_map_open(&options, &map) == SAMVOLIP_OK);
+        goes_on_after_it_was_full(map, cases[i].slots);
+    }
 }
 
 /* Built with fewer slots at most than a table has, as -DMOST_EXPONENT says to map.c. */
@@ -1466,6 +1520,7 @@ static const struct {
     TEST(what_four_threads_add_is_there_or_was_removed),
     TEST(many_threads_share_few_seats),
     TEST(seats_go_from_thread_to_thread),
+    TEST(threads_arrive_during_renewals),
     TEST(a_seat_that_is_left_is_taken),
     TEST(no_reader_sees_what_was_before),
     TEST(reads_go_on_during_a_renewal),
