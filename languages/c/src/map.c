@@ -990,8 +990,11 @@ int samvolip_map_walk_next(samvolip_map_walk *walk, uint64_t *key, uint64_t *num
 
 void samvolip_map_walk_end(samvolip_map_walk *walk)
 {
+    bool was_outside = go_inside(); /* no handler waits for another thread while this one frees the walk */
     end_walk(walk);
     free(walk);
+    if (was_outside)
+        go_outside();
 }
 
 int samvolip_map_clear(samvolip_map *map, samvolip_map_visit *visit, void *context)

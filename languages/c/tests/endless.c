@@ -1194,8 +1194,10 @@ static void children_and_parents_go_on(void)
 
 /* ---- signals ------------------------------------------------------------------------------- */
 
-/* Handlers add to a key of one map, and ask the other, which is cleared, for its size. */
-static samvolip_map *signalled, *asked;
+/* Handlers add to a key of one map, ask another one, which is cleared, for its size, and call so many that a thread forgets where it
+   has a seat of the first. */
+enum { CALLED = 16 };
+static samvolip_map *signalled, *asked, *called[CALLED];
 static atomic_ullong made, nested;
 static atomic_bool is_sent;
 
@@ -1236,6 +1238,8 @@ static void handle(int signal)
         all_are_nested();
     } else {
         made++;
+        for (int i = 0; i < CALLED; i++)
+            EXPECT(samvolip_map_contains(called[i], 1) == 0);
         EXPECT(samvolip_map_size(asked, &number) == SAMVOLIP_OK && number <= SHARED_KEYS);
         EXPECT(samvolip_map_get(signalled, PUBLISHED, &number) == SAMVOLIP_PRESENT);
     }
@@ -1244,8 +1248,9 @@ static void handle(int signal)
 
 static void call_between_signals(struct worker *worker)
 {
-    samvolip_map_contains(signalled, 0);
-    samvolip_map_contains(asked, 0);
+    EXPECT(samvolip_map_contains(signalled, 0) >= 0 && samvolip_map_contains(asked, 0) >= 0);
+    for (int i = 0; i < CALLED; i++)
+        EXPECT(samvolip_map_contains(called[i], 0) == 0);
     ready++;
     while (is_sent) {
         const uint64_t choice = random_from(&worker->state);
@@ -1267,6 +1272,8 @@ static void handlers_are_refused_in_the_middle_of_calls(void)
     for (int round = 0; round < 2; round++) {
         uint64_t state = 1;
         signalled = open_map(1, seats[round], 0), asked = open_map(1, seats[1 - round], 0);
+        for (int i = 0; i < CALLED; i++)
+            called[i] = open_map(1, 4, 0);
         EXPECT(samvolip_map_put(signalled, PUBLISHED, 0, NULL) == SAMVOLIP_ABSENT);
         made = nested = 0;
         ready = 0;
@@ -1287,6 +1294,8 @@ static void handlers_are_refused_in_the_middle_of_calls(void)
             printf("by handlers: %llu made, %llu nested\n", (unsigned long long)made, (unsigned long long)nested);
         samvolip_map_free(signalled);
         samvolip_map_free(asked);
+        for (int i = 0; i < CALLED; i++)
+            samvolip_map_free(called[i]);
     }
 }
 
