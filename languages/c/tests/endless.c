@@ -1246,6 +1246,14 @@ static void handle(int signal)
     errno = saved;
 }
 
+/* Maps that may have one place in what the thread remembers: none answers for another. */
+static void call_two(unsigned i)
+{
+    uint64_t number;
+    for (unsigned one = i; one < CALLED; one += CALLED / 2)
+        EXPECT(samvolip_map_get(called[one], 5, &number) == SAMVOLIP_PRESENT && number == one);
+}
+
 static void call_between_signals(struct worker *worker)
 {
     EXPECT(samvolip_map_contains(signalled, 0) >= 0 && samvolip_map_contains(asked, 0) >= 0);
@@ -1256,6 +1264,7 @@ static void call_between_signals(struct worker *worker)
         const uint64_t choice = random_from(&worker->state);
         samvolip_map_walk *walk;
         churn(worker);
+        call_two(choice / 16 % (CALLED / 2));
         EXPECT(samvolip_map_put(asked, choice % SHARED_KEYS, 0, NULL) >= 0);
         EXPECT(samvolip_map_walk_begin(asked, &walk) == SAMVOLIP_OK);
         samvolip_map_walk_end(walk);
@@ -1272,8 +1281,11 @@ static void handlers_are_refused_in_the_middle_of_calls(void)
     for (int round = 0; round < 2; round++) {
         uint64_t state = 1;
         signalled = open_map(1, seats[round], 0), asked = open_map(1, seats[1 - round], 0);
-        for (int i = 0; i < CALLED; i++)
+        for (unsigned i = 0; i < CALLED; i++) {
             called[i] = open_map(1, 4, 0);
+            EXPECT(samvolip_map_put(called[i], 5, i, NULL) == SAMVOLIP_ABSENT);
+            samvolip_map_leave(called[i]);
+        }
         EXPECT(samvolip_map_put(signalled, PUBLISHED, 0, NULL) == SAMVOLIP_ABSENT);
         made = nested = 0;
         ready = 0;
