@@ -68,6 +68,7 @@ impl<V: Drop> Handle<V> {
     pub fn split_all(self, alloc: Global) -> Result<Vec<Handle<V>>, Handle<V>>
         ensures split { IfOk result (λ handles. handles.items
             ≡ map (handle_on self.map) (seats_of self)) }
+        ensures one { IfOk result (λ handles. All (λ handle. handle.map ≡ self.map) handles.items) }
         ensures back { IfErr result (λ back. back ≡ self) }
     {
         let Ok(mut handles) = Vec::with_capacity(alloc, self.seats()) else {

@@ -81,6 +81,7 @@ impl Handle {
     pub fn split_all(self, alloc: Global) -> Result<Vec<Handle>, Handle>
         ensures split { IfOk result (λ handles. handles.items
             ≡ map (handle_on self.map) (seats_of self)) }
+        ensures one { IfOk result (λ handles. All (λ handle. handle.map ≡ self.map) handles.items) }
         ensures back { IfErr result (λ back. back ≡ self) }
     {
         let Ok(mut handles) = Vec::with_capacity(alloc, self.seats()) else {

@@ -58,6 +58,7 @@ impl Handle {
     pub fn split_all(self, alloc: Global) -> Result<Vec<Handle>, Handle>
         ensures split { IfOk result (λ handles. handles.items
             ≡ map (handle_on self.set) (seats_of self)) }
+        ensures one { IfOk result (λ handles. All (λ handle. handle.set ≡ self.set) handles.items) }
         ensures back { IfErr result (λ back. back ≡ self) }
     {
         let Ok(mut handles) = Vec::with_capacity(alloc, self.seats()) else {

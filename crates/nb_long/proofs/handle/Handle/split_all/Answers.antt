@@ -1,9 +1,9 @@
-use Rattle.std.proofs.Common.{◌≡◌, ◌∙◌, ◌∷◌, [], All, Some, ap, length, length-append, map, subst, sym, arith}
+use Rattle.std.proofs.Common.{◌≡◌, ◌∙◌, ◌∷◌, [], All, Some, ap, length, length-append, map, refl, subst, sym, arith}
 use Rattle.std.specs.Arc.{arc_value}
 use Rattle.std.specs.Vec.Iter.{into_iter_items}
 use Rattle.std.proofs.lemmas.List.{length-map}
-use Rattle.std.proofs.lemmas.List.Elements.{All-pop}
-use Rattle.nb_core.proofs.Seating.{AreMoved, moved-count, moved-more, none-moved}
+use Rattle.std.proofs.lemmas.List.Elements.{All-map, All-pop}
+use Rattle.nb_core.proofs.Seating.{AreMoved, all-moved, moved-count, moved-more, none-moved}
 use Rattle.nb_long.proofs.Held.{with-stores}
 use Rattle.nb_long.specs.Handles.{HandleOf, handle_on, seats_of, with_store}
 use Rattle.nb_long.proofs.handle.Handle.split_all.Goals as goal
@@ -69,3 +69,12 @@ loop-map-preserved g c =
       both.0,
       omega (arith, inv.5, c.push_reserved.ensures.capacity),
     )
+
+pub returns-clause-one : goal.returns-clause-one
+returns-clause-one g c =
+    let whole = c.args.self in
+    let split = all-moved c.loop-map.invariant.2
+    (omega (arith, c.in-None.ensures.steps, c.loop-map.map-iterator.rest.ok)) in
+    subst (All (λ handle. handle.map ≡ whole.map)) (sym split)
+    (All-map (λ handle. handle.map ≡ whole.map) (handle_on whole.map) (seats_of whole)
+    (λ i d within. refl))

@@ -1,8 +1,9 @@
-use Rattle.std.proofs.Common.{◌≡◌, ◌∙◌, ◌∷◌, [], Some, ap, length, length-append, subst, sym, arith, rules}
+use Rattle.std.proofs.Common.{◌≡◌, ◌∙◌, ◌∷◌, [], All, Some, ap, length, length-append, refl, subst, sym, arith, rules}
 use Rattle.std.specs.Arc.{arc_value}
 use Rattle.std.proofs.lemmas.List.{nil_from_length}
-use Rattle.std.proofs.lemmas.List.Elements.{All-nil, All-pop, All-same, All-weaker}
+use Rattle.std.proofs.lemmas.List.Elements.{All-map, All-nil, All-pop, All-same, All-weaker}
 use Rattle.nb_map.proofs.Held.{all-split, front-mine, handle-is, last-mine, none-split, one-split}
+use Rattle.nb_map.specs.Handles.{handle_on, seats_of}
 use Rattle.nb_map.specs.Maps.{AreMine, IsMine}
 use Rattle.nb_map.specs.declared.handle.Shared.{Shared}
 use Rattle.nb_map.proofs.handle.Handle.split_all.Goals as goal
@@ -69,3 +70,9 @@ returns-clause-split c =
     all-split m c.args.self.reserve c.loop-shared.reserve c.args.self.seat c.loop-shared.handles.items
     c.push_reserved-2.new.self.items c.reverse.new.self.items _ inv.0 none c.push_reserved-2.ensures.items
     (handle-is m _ c.args.self.seat inv.3 inv.4 none) c.reverse.ensures.items
+
+pub returns-clause-one : goal.returns-clause-one
+returns-clause-one c =
+    let m = c.args.self.map in
+    subst (All (λ handle. handle.map ≡ m)) (sym (returns-clause-split c))
+    (All-map (λ handle. handle.map ≡ m) (handle_on m) (seats_of c.args.self) (λ i d within. refl))

@@ -1,5 +1,6 @@
-use Rattle.std.proofs.Common.{◌∙◌, ap, arith, length, map, refl, sym}
+use Rattle.std.proofs.Common.{◌≡◌, ◌∙◌, All, ap, arith, length, map, refl, subst, sym}
 use Rattle.std.proofs.lemmas.List.{length-map}
+use Rattle.std.proofs.lemmas.List.Elements.{All-map}
 use mathlib.Core.List.{map-map}
 use Rattle.nb_core.proofs.Seating.{all-moved, moved-count, moved-more, none-moved}
 use Rattle.nb_map.specs.Handles as handles
@@ -38,3 +39,10 @@ pub returns-in-None-clause-split : goal.returns-in-None-clause-split
 returns-in-None-clause-split c =
     all-moved c.loop-map.invariant.2
     (omega (arith, c.in-None.ensures.steps, c.loop-map.map-iterator.rest.ok))
+
+pub returns-in-None-clause-one : goal.returns-in-None-clause-one
+returns-in-None-clause-one c =
+    let set = c.args.self.set in
+    subst (All (λ handle. handle.set ≡ set)) (sym (returns-in-None-clause-split c))
+    (All-map (λ handle. handle.set ≡ set) (handle_on set) (seats_of c.args.self)
+    (λ i d within. refl))
