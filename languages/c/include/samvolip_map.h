@@ -222,6 +222,27 @@ int samvolip_map_walk_begin(samvolip_map *map, samvolip_map_walk **walk);
 int samvolip_map_walk_next(samvolip_map_walk *walk, uint64_t *key, uint64_t *number);
 void samvolip_map_walk_end(samvolip_map_walk *walk);
 
+/* The next entries of a walk, as many as there is room for, and fewer at its end alone. It returns how many they are, or E_NESTED. */
+int samvolip_map_walk_some(samvolip_map_walk *walk, samvolip_entry *entries, int room);
+
+/* ---- answers in one word ------------------------------------------------------------------- */
+
+/* The same calls, for languages in which it costs much to pass a pointer. Each returns the number that it would write, SAMVOLIP_NONE
+   in place of SAMVOLIP_ABSENT, or the code of a refusal. */
+#define SAMVOLIP_NONE INT64_MIN
+int64_t samvolip_map_get_word(samvolip_map *map, uint64_t key);
+int64_t samvolip_map_put_word(samvolip_map *map, uint64_t key, uint64_t number);
+int64_t samvolip_map_put_if_absent_word(samvolip_map *map, uint64_t key, uint64_t number);
+int64_t samvolip_map_fetch_max_word(samvolip_map *map, uint64_t key, uint64_t number);
+int64_t samvolip_map_fetch_min_word(samvolip_map *map, uint64_t key, uint64_t number);
+int64_t samvolip_map_add_word(samvolip_map *map, uint64_t key, uint64_t number);
+int64_t samvolip_map_replace_word(samvolip_map *map, uint64_t key, uint64_t number);
+int64_t samvolip_map_remove_word(samvolip_map *map, uint64_t key);
+int64_t samvolip_map_size_word(samvolip_map *map);
+int64_t samvolip_map_size_estimate_word(samvolip_map *map);
+
+/* ------------------------------------------------------------------------------------------- */
+
 /* What a code means, for people. */
 static inline const char *samvolip_map_strerror(int code)
 {

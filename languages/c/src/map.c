@@ -6,6 +6,7 @@
    has none: membarrier gives it to all threads that run when the gate is closed. So either the one who closes sees the busy word, or
    the call sees the gate. ../model/gate.pml is this for spin, and docs/endless.md tells it in a page. */
 #define _GNU_SOURCE
+#include "memory.h"
 #include "samvolip_map.h"
 #include <linux/membarrier.h>
 #include <pthread.h>
@@ -389,10 +390,12 @@ static void thread_ends(void *unused)
 
 /* ---- how a call begins and ends ------------------------------------------------------------ */
 
+static inline bool is_inside(void) { return UNLIKELY(atomic_load_explicit(&here.busy, memory_order_relaxed) != REST); }
+
 /* Marks this thread as in the middle of a call that is in no core, unless it is in another one. */
 static bool go_inside(void)
 {
-    if (atomic_load_explicit(&here.busy, memory_order_relaxed) != REST)
+    if (is_inside())
         return false;
     atomic_store(&here.busy, WAITS);
     return true;
@@ -441,18 +444,24 @@ static COLD lane *enter_slowly(samvolip_map *map, unsigned what)
     }
 }
 
-/* Begins a call: the lane by whose seat it is made; NULL in the middle of another call of the thread. */
-static inline lane *enter(samvolip_map *map, unsigned what)
+/* Begins a call by the thread's own lane, if it has one and the gate is open; else the thread is inside, and it is NULL. */
+static inline lane *enter_at_once(samvolip_map *map, unsigned what)
 {
-    if (UNLIKELY(atomic_load_explicit(&here.busy, memory_order_relaxed) != REST))
-        return NULL;
     bool is_mine = here.ids[map->cell] == map->id;
     lane *mine = here.lanes[map->cell];
     atomic_store_explicit(&here.busy, is_mine ? map->id + what : WAITS, memory_order_relaxed);
     atomic_signal_fence(memory_order_seq_cst); /* heavy_fence makes it a full one */
-    if (UNLIKELY(!is_mine) || UNLIKELY(atomic_load_explicit(&map->gate, memory_order_acquire) != OPEN))
-        return enter_slowly(map, what);
-    return mine;
+    bool is_open = atomic_load_explicit(&map->gate, memory_order_acquire) == OPEN;
+    return UNLIKELY(!is_mine) || UNLIKELY(!is_open) ? NULL : mine;
+}
+
+/* Begins a call: the lane by whose seat it is made; NULL in the middle of another call of the thread. */
+static inline lane *enter(samvolip_map *map, unsigned what)
+{
+    if (is_inside())
+        return NULL;
+    lane *mine = enter_at_once(map, what);
+    return UNLIKELY(!mine) ? enter_slowly(map, what) : mine;
 }
 
 static inline void leave(void)
@@ -514,7 +523,8 @@ static bool has_memory(const samvolip_map *map, uint32_t exponent)
     return map->options.memory == 0 || slots <= map->options.memory / sizeof(samvolip_entry);
 }
 
-static int new_core(const samvolip_map *map, uint32_t exponent, core **made)
+/* A core for the map. `is_filled`: with spread keys, while others wait, so that its pages are wanted before. */
+static int new_core(const samvolip_map *map, uint32_t exponent, bool is_filled, core **made)
 {
     uint32_t stripes = map->count < 16 ? map->count : 16;
     samvolip_shape shape = {{exponent}, 1, map->count + 1, stripes, 18, 256};
@@ -522,7 +532,9 @@ static int new_core(const samvolip_map *map, uint32_t exponent, core **made)
     if (!fresh)
         return SAMVOLIP_E_OUT_OF_MEMORY;
     fresh->exponent = exponent;
+    takes_pages_at_once = is_filled && map->mixes;
     int code = samvolip_open(&shape, &fresh->reserve);
+    takes_pages_at_once = false;
     if (code < 0)
         free(fresh);
     else
@@ -606,7 +618,7 @@ static int copy(samvolip_map *map, const core *fresh)
 static int exchange(samvolip_map *map, uint32_t exponent, samvolip_map_walk *walk)
 {
     core *fresh;
-    int code = new_core(map, exponent, &fresh);
+    int code = new_core(map, exponent, walk == NULL, &fresh);
     if (code < 0)
         return code;
     if ((code = seat_lanes(map, fresh)) >= 0) {
@@ -724,14 +736,25 @@ static inline bool is_done(samvolip_map *map, lane *used, int *code, bool is_cha
             return code;                                                                                                             \
     }
 
+/* Inside. It stands apart so that samvolip_map_get needs no stack. */
+static COLD int get_slowly(samvolip_map *map, uint64_t inner, uint64_t *number)
+{
+    lane *used = enter_slowly(map, READS);
+    int code = samvolip_get(&used->seat, inner, number);
+    leave();
+    return code;
+}
+
 int samvolip_map_get(samvolip_map *map, uint64_t key, uint64_t *number)
 {
     uint64_t inner = inner_key(map, key);
-    lane *used = enter(map, READS);
-    if (!used)
+    if (is_inside())
         return SAMVOLIP_E_NESTED;
-    int code = samvolip_get(&used->seat, inner, number);
-    leave();
+    lane *mine = enter_at_once(map, READS);
+    if (UNLIKELY(!mine))
+        return get_slowly(map, inner, number);
+    int code = samvolip_get(&mine->seat, inner, number);
+    go_outside();
     return code;
 }
 
@@ -1113,7 +1136,7 @@ int samvolip_map_open_with(uint32_t version, size_t options_size, size_t figures
     samvolip_map *map = new_map(&read);
     if (!map)
         return SAMVOLIP_E_OUT_OF_MEMORY;
-    int code = new_core(map, exponent_for(read.room), &map->core);
+    int code = new_core(map, exponent_for(read.room), false, &map->core);
     for (unsigned i = 0; i < COMMON && code >= 0; i++)
         code = samvolip_split(&map->core->reserve, &map->lanes[i].seat);
     if (code < 0) {

@@ -1,0 +1,49 @@
+/* words.c - the calls of samvolip_map.h that answer in one word, and a walk by many entries at a time. */
+#include "samvolip_map.h"
+
+/* What a call has found, by its code. */
+static inline int64_t word(int code, uint64_t found)
+{
+    if (code < 0)
+        return code;
+    return code == SAMVOLIP_PRESENT ? (int64_t)found : SAMVOLIP_NONE;
+}
+
+#define WORD(name, parameters, call)                                                                                                 \
+    int64_t samvolip_map_##name##_word parameters                                                                                    \
+    {                                                                                                                                \
+        uint64_t found = 0;                                                                                                          \
+        int code = call;                                                                                                             \
+        return word(code, found);                                                                                                    \
+    }
+
+WORD(get, (samvolip_map *map, uint64_t key), samvolip_map_get(map, key, &found))
+WORD(put, (samvolip_map *map, uint64_t key, uint64_t number), samvolip_map_put(map, key, number, &found))
+WORD(put_if_absent, (samvolip_map *map, uint64_t key, uint64_t number), samvolip_map_put_if_absent(map, key, number, &found))
+WORD(fetch_max, (samvolip_map *map, uint64_t key, uint64_t number), samvolip_map_fetch_max(map, key, number, &found))
+WORD(fetch_min, (samvolip_map *map, uint64_t key, uint64_t number), samvolip_map_fetch_min(map, key, number, &found))
+WORD(add, (samvolip_map *map, uint64_t key, uint64_t number), samvolip_map_add(map, key, number, &found))
+WORD(replace, (samvolip_map *map, uint64_t key, uint64_t number), samvolip_map_replace(map, key, number, &found))
+WORD(remove, (samvolip_map *map, uint64_t key), samvolip_map_remove(map, key, &found))
+
+int64_t samvolip_map_size_word(samvolip_map *map)
+{
+    uint64_t size = 0;
+    int code = samvolip_map_size(map, &size);
+    return code < 0 ? code : (int64_t)size;
+}
+
+int64_t samvolip_map_size_estimate_word(samvolip_map *map)
+{
+    uint64_t size = 0;
+    int code = samvolip_map_size_estimate(map, &size);
+    return code < 0 ? code : (int64_t)size;
+}
+
+int samvolip_map_walk_some(samvolip_map_walk *walk, samvolip_entry *entries, int room)
+{
+    int count = 0, code = SAMVOLIP_PRESENT;
+    while (count < room && (code = samvolip_map_walk_next(walk, &entries[count].key, &entries[count].number)) == SAMVOLIP_PRESENT)
+        count++;
+    return code < 0 ? code : count;
+}
