@@ -33,9 +33,13 @@ static inline samvolip_map *map_of(PyObject *self)
 
 static bool refuse_range(PyObject *given, const char *range)
 {
-    PyErr_Format(PyExc_OverflowError, "%s, not %S", range, given);
-    if (!PyErr_ExceptionMatches(PyExc_OverflowError)) /* some numbers are too long to be shown */
+    PyObject *shown = PyObject_Str(given);
+    PyErr_Clear(); /* some numbers are too long to be shown */
+    if (shown)
+        PyErr_Format(PyExc_OverflowError, "%s, not %S", range, shown);
+    else
         PyErr_SetString(PyExc_OverflowError, range);
+    Py_XDECREF(shown);
     return false;
 }
 

@@ -16,7 +16,7 @@ from typing import Any
 from samvolip import Map
 
 try:
-    from test import mapping_tests
+    from test import mapping_tests  # type: ignore[import]
 except ImportError:
     print("python: test.mapping_tests isn't here: CPython's tests of a mapping were left out")
     sys.exit()

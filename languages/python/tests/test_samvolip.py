@@ -161,8 +161,8 @@ class Refusals(unittest.TestCase):
         for call in self.calls_of_a_key(m):
             for key in (-1, KEY_MAX + 1, 2**64, -(10**30)):
                 self.assertRaises(OverflowError, call, key)
-            for key in (1.0, "a", None, b"1", (1,), m):
-                self.assertRaises(TypeError, call, key)
+            for wrong in (1.0, "a", None, b"1", (1,), m):
+                self.assertRaises(TypeError, call, wrong)
             self.assertEqual(m.snapshot(), {1: 2})
 
     def test_numbers(self):
@@ -182,8 +182,8 @@ class Refusals(unittest.TestCase):
         for call in calls:
             for number in (-1, VALUE_MAX + 1, 2**64):
                 self.assertRaises(OverflowError, call, number)
-            for number in (2.0, "a", None, [None]):
-                self.assertRaises(TypeError, call, number)
+            for wrong in (2.0, "a", None, [None]):
+                self.assertRaises(TypeError, call, wrong)
             self.assertEqual(m.snapshot(), {1: 2})
         for words in ((1, -1, 2), (1, 2, -1), (1, 2, VALUE_MAX + 1)):
             self.assertRaises(OverflowError, m.compare_exchange, *words)
@@ -231,9 +231,9 @@ class Refusals(unittest.TestCase):
             self.assertRaises(ValueError, Map, **{name: number})
         for name, number in [("room", 2**64), ("memory", -1), ("growth", 2**32), ("threads", -1)]:
             self.assertRaises(OverflowError, Map, **{name: number})
-        self.assertRaises(TypeError, Map, room=1.5)  # type: ignore[arg-type]
-        self.assertRaises(TypeError, Map, hello=1)  # type: ignore[call-arg]
-        self.assertRaises(ValueError, Map().__init__)
+        self.assertRaises(TypeError, Map, room=1.5)
+        self.assertRaises(TypeError, Map, hello=1)
+        self.assertRaises(ValueError, Map.__init__, Map())
         self.assertEqual(Map(room=10_000, memory=2**20, growth=2, threads=1, keys="mixed").figures().slots, 16384)
 
     def test_memory(self):
@@ -314,7 +314,7 @@ class Mapping(unittest.TestCase):
         self.assertTrue(1 in keys and 2 not in keys and "a" not in keys and -1 not in keys and 1.0 not in keys)
         self.assertTrue((1, 2) in items and (1, 3) not in items and (2, 2) not in items and (1,) not in items and 1 not in items)
         self.assertTrue(4 in values and 3 not in values and "a" not in values and keys.isdisjoint({2}))
-        self.assertEqual((items & {(1, 2), (1, 5)}, dict(m), dict(m.items()), {**m}), ({(1, 2)}, m, m, m))  # type: ignore[arg-type]
+        self.assertEqual((items & {(1, 2), (1, 5)}, dict(m), dict(m.items()), {**m}), ({(1, 2)}, m, m, m))
 
     def test_copies(self):
         class Named(Map):
@@ -514,11 +514,34 @@ class Batches(unittest.TestCase):
 
         counting = threading.Thread(target=count)
         counting.start()
-        run_all(4, lambda _: [m.add_many(keys) for _ in range(10)])
+        run_all(4, lambda _: m.add_many(keys * 10))
         goes_on[0] = False
         counting.join()
         self.assertEqual((len(m), set(m.values())), (50_000, {40}))
         self.assertTrue(turns[0] > 1000)
+
+    def test_beside_a_dict(self):
+        """Four threads' batches are several times as fast as four threads with a dict behind a lock."""
+        m, numbers, lock, keys = Map(), dict.fromkeys(range(1000), 0), threading.Lock(), array("Q", range(1000)) * 50
+
+        def batch(_: int) -> None:
+            m.add_many(keys)
+
+        def one_by_one(_: int) -> None:
+            for key in keys:
+                with lock:
+                    numbers[key] += 1
+
+        def best_of_three(work: Callable[[int], None]) -> float:
+            times = []
+            for _ in range(3):
+                begun = time.perf_counter()
+                run_all(4, work)
+                times.append(time.perf_counter() - begun)
+            return min(times)
+
+        self.assertTrue(best_of_three(one_by_one) > 4 * best_of_three(batch))
+        self.assertEqual(m, numbers)
 
     def test_interrupted(self):
         """A signal's handler raises in the middle of a batch."""
