@@ -171,9 +171,10 @@ class Map(Base, MutableMapping[int, int]):  # type: ignore[misc]
             try:
                 key = self._shown.pop()
             except IndexError:
-                self._shown = list(itertools.islice(self, 1000))
-                if not self._shown:
+                shown = list(itertools.islice(self, 1000))
+                if not shown:
                     raise KeyError("popitem(): the map is empty") from None
+                self._shown = shown
                 continue
             number = self.remove(key)
             if number is not None:

@@ -594,22 +594,25 @@ class Threads(unittest.TestCase):
 
         renewing = threading.Thread(target=renew)
         renewing.start()
+        rounds = [0] * 6
 
         def work(number: int) -> None:
             mine = 1000 + number
-            for i in range(4000):
-                m.add(i % 500)
-                self.assertEqual(m.put(mine, i), None if i == 0 else i - 1)
-                if i % 500 == 0:
-                    self.assertEqual(m[mine], i)
-                    self.assertTrue(mine in set(m) and mine in m.snapshot() and len(m) >= 1)
+            while m.figures().renewals < 50 or rounds[number] < 5:
+                for i in range(500):
+                    m.add(i)
+                    self.assertEqual(m.put(mine, i), None if rounds[number] + i == 0 else (i - 1) % 500)
+                m.add_many(range(500))
+                rounds[number] += 1
+                self.assertEqual(m[mine], 499)
+                self.assertTrue(mine in set(m) and mine in m.snapshot() and len(m) >= 501)
 
-        run_all(6, work)
-        m.add_many(array("Q", range(500)) * 100)
-        goes_on[0] = False
-        renewing.join()
-        self.assertEqual((len(m), sum(m[key] for key in range(500))), (506, 6 * 4000 + 50_000))
-        self.assertTrue(m.figures().renewals > 10)
+        try:
+            run_all(6, work)
+        finally:
+            goes_on[0] = False
+            renewing.join()
+        self.assertEqual((len(m), {m[key] for key in range(500)}), (506, {2 * sum(rounds)}))
 
     def test_contended(self):
         m = Map()
