@@ -84,7 +84,10 @@ static inline bool takes(const char *name, Py_ssize_t count, Py_ssize_t least, P
 {
     if (count >= least && count <= most)
         return true;
-    PyErr_Format(PyExc_TypeError, "%s() takes %zd to %zd arguments, and %zd were given", name, least, most, count);
+    if (least < most)
+        PyErr_Format(PyExc_TypeError, "%s() takes %zd or %zd arguments, not %zd", name, least, most, count);
+    else
+        PyErr_Format(PyExc_TypeError, "%s() takes %zd arguments, not %zd", name, most, count);
     return false;
 }
 
