@@ -444,15 +444,18 @@ static COLD lane *enter_slowly(samvolip_map *map, unsigned what)
     }
 }
 
-/* Begins a call by the thread's own lane, if it has one and the gate is open; else the thread is inside, and it is NULL. */
+/* Begins a call by the thread's own lane, if it has one and the gate is open; else the thread is inside, and it is NULL. The busy word
+   comes first: from then on a handler is refused, so that it can't put another map's lane into the cell. */
 static inline lane *enter_at_once(samvolip_map *map, unsigned what)
 {
-    bool is_mine = here.ids[map->cell] == map->id;
-    lane *mine = here.lanes[map->cell];
-    atomic_store_explicit(&here.busy, is_mine ? map->id + what : WAITS, memory_order_relaxed);
+    atomic_store_explicit(&here.busy, map->id + what, memory_order_relaxed);
     atomic_signal_fence(memory_order_seq_cst); /* heavy_fence makes it a full one */
-    bool is_open = atomic_load_explicit(&map->gate, memory_order_acquire) == OPEN;
-    return UNLIKELY(!is_mine) || UNLIKELY(!is_open) ? NULL : mine;
+    lane *mine = here.lanes[map->cell];
+    bool is_mine = here.ids[map->cell] == map->id, is_open = atomic_load_explicit(&map->gate, memory_order_acquire) == OPEN;
+    if (is_mine && is_open)
+        return mine;
+    atomic_store_explicit(&here.busy, WAITS, memory_order_release);
+    return NULL;
 }
 
 /* Begins a call: the lane by whose seat it is made; NULL in the middle of another call of the thread. */
@@ -663,9 +666,11 @@ static int renew(samvolip_map *map, uint64_t room, bool is_full)
 {
     int code = SAMVOLIP_E_FULL;
     while (code == SAMVOLIP_E_FULL) {
-        uint64_t keys = samvolip_size_estimate(&map->lanes[0].seat), asked = room ? room : keys * map->options.growth;
-        uint64_t slots = is_full ? keys + 1 : keys + keys / 2;
-        uint32_t least = exponent_of(slots), exponent = exponent_for(greater(keys, greater(asked, map->options.room)));
+        uint64_t keys = samvolip_size_estimate(&map->lanes[0].seat), slots = is_full ? keys + 1 : keys + keys / 2;
+        /* it comes when there are about 2/3 as many keys as slots: by 5/4, and not 3/2, 4 times as many don't become 8 times by rounding */
+        uint64_t grown = keys * map->options.growth, wanted = room ? room + room / 2 : grown + grown / 4;
+        wanted = greater(wanted, greater(keys + keys / 2, map->options.room + map->options.room / 2));
+        uint32_t least = exponent_of(slots), exponent = exponent_of(wanted);
         code = SAMVOLIP_E_OUT_OF_MEMORY;
         if (slots_of(least) >= slots)
             do
@@ -751,7 +756,7 @@ int samvolip_map_get(samvolip_map *map, uint64_t key, uint64_t *number)
     if (is_inside())
         return SAMVOLIP_E_NESTED;
     lane *mine = enter_at_once(map, READS);
-    if (UNLIKELY(!mine))
+    if (UNLIKELY(mine == NULL))
         return get_slowly(map, inner, number);
     int code = samvolip_get(&mine->seat, inner, number);
     go_outside();
