@@ -1,37 +1,41 @@
-"""Prints what calls cost, in microseconds, as docs/python.md tells: cost.py [CALLS]
+"""Prints what calls cost beside those of a dict behind a lock, in microseconds, as docs/python.md tells: cost.py [CALLS]
 
-A number is the processor's time of a round, with that of its loop, divided by the calls of all threads; the best of nine rounds. The
-last column is the elapsed time of a get by four threads, divided likewise.
+A number is the time of a round, with that of its loop, divided by the calls of all threads; the best of seven rounds, which go by turns.
+First the processor's time of one thread; then the elapsed time of four threads, each with as many calls.
 """
 
 import sys
 import threading
 import time
-from ctypes import c_int, c_uint64
+from array import array
+from collections.abc import Callable
+from typing import Any
 
-from samvolip import Map, Seat, library, mix
+from samvolip import Map
 
-CALLS = int(sys.argv[1]) if len(sys.argv) > 1 else 20_000
+CALLS = int(sys.argv[1]) if len(sys.argv) > 1 else 200_000
 KEYS = 10_000
+ROUNDS = 7
 
 
 class Locked:
     """A dict behind a lock."""
 
-    def __init__(self):
-        self.numbers, self.lock = {}, threading.Lock()
+    def __init__(self) -> None:
+        self.numbers: dict[int, int] = {}
+        self.lock = threading.Lock()
 
     def get(self, key):
         with self.lock:
             return self.numbers.get(key)
 
-    def add(self, key, number):
-        with self.lock:
-            self.numbers[key] = self.numbers.get(key, 0) + number
-
     def put(self, key, number):
         with self.lock:
             self.numbers[key] = number
+
+    def add(self, key):
+        with self.lock:
+            self.numbers[key] = self.numbers.get(key, 0) + 1
 
 
 def gets(one, keys):
@@ -46,133 +50,85 @@ def puts(one, keys):
 
 def adds(one, keys):
     for key in keys:
-        one.add(key, 1)
+        one.add(key)
+
+
+def subscripts(one, keys):
+    for key in keys:
+        one[key]
+
+
+def sets(one, keys):
+    for key in keys:
+        one[key] = 5
 
 
 def walks(one, keys):
     for _ in range(len(keys) // KEYS):
-        for _ in one.walk():
+        for _ in one.items():
             pass
 
 
-def round_of(work, ones):
-    """The processor's time and the elapsed time of a call in one round, with a thread for each."""
-    keys = [i % KEYS for i in range(CALLS)]
-    threads = [threading.Thread(target=work, args=(one, keys)) for one in ones]
-    begun = time.process_time(), time.perf_counter()
-    for thread in threads:
-        thread.start()
-    for thread in threads:
-        thread.join()
-    ended = time.process_time(), time.perf_counter()
-    return [(end - begin) / (CALLS * len(ones)) * 1e6 for begin, end in zip(begun, ended)]
+def add_batches(one, keys):
+    one.add_many(keys)
 
 
-def costs(work, ones):
-    """The best of nine rounds, of each kind of time."""
-    rounds = [round_of(work, ones) for _ in range(9)]
-    return [min(times) for times in zip(*rounds)]
+def put_batches(one, keys):
+    one.put_many(keys, 5)
 
 
-def row(name, ones, walked):
-    """The line of a kind of map, of which each thread has one."""
-    of_one = [costs(work, ones[:1])[0] for work in (gets, puts, adds)]
-    of_one.append(costs(walks, ones[:1])[0] if walked else 0)
-    line(name, *of_one, *costs(gets, ones))
+def get_batches(one, keys):
+    one.get_many(keys)
 
 
-def line(name, *numbers):
-    print(f"{name:42}" + "".join(f"{number:9.3f}" for number in numbers), flush=True)
-
-
-def filled(one):
+def filled(one: Any) -> Any:
     for key in range(KEYS):
         one.put(key, key)
     return one
 
 
-def of_map(name, **named):
-    row(name, [filled(Map.for_keys(KEYS, seats=8, **named))] * 4, True)
-
-
-def of_seats(name, **named):
-    first = filled(Seat.for_keys(KEYS, seats=4, **named))
-    row(name, [first] + [first.split() for _ in range(3)], True)
-
-
-def once(calls, function):
-    """The processor's time of a call of this function, without the loop; the best of nine rounds."""
-    best = []
-    for measured in (function, lambda: None):
-        rounds = []
-        for _ in range(9):
-            begun = time.thread_time()
-            for _ in range(calls):
-                measured()
-            rounds.append(time.thread_time() - begun)
-        best.append(min(rounds))
-    return (best[0] - best[1]) / calls * 1e6
-
-
-def letting_go():
-    """A map whose calls let go of the interpreter's lock."""
-    names = {"get": "get", "try_put": "try_put", "try_add": "try_add", "next_pair": "next"}
-    keeping = {name: getattr(library, name) for name in names}
-    for name, exported in names.items():
-        setattr(library, name, library._function(library._lets_go, exported, c_int, *keeping[name].argtypes))
-    of_map("Map, not mixed, letting go of the lock", mixed=False)
-    for name, kept in keeping.items():
-        setattr(library, name, kept)
-
-
-def parts():
-    """What a call is made of."""
-    one = filled(Map.for_keys(KEYS, seats=8, mixed=False))
-    one.get(1)
-    local, lease, number, lock = one._local, one._local.lease, c_uint64(), threading.RLock()
-
-    def locked():
-        with lock:
-            pass
-
-    line("the lookup of a thread's seat", once(CALLS, lambda: local.lease) - once(CALLS, lambda: lease.handle))
-    line("the lock of an explicit seat", once(CALLS, locked))
-    line("mix", once(CALLS, lambda: mix(12345)))
-    line("the call of the library alone, a get", once(CALLS, lambda: library.get(lease.handle, 5, number)))
-
-    def taken():
-        one.get(1)
-        one.give_back()
-
-    line("a seat taken, a get, and the seat back", once(1000, taken))
-
-
-def longest():
-    """The longest put of a map that grows, and a long way of a walk: they hold the interpreter as long."""
-    most = 1_000_000
-    one, worst = Map.for_keys(most, seats=2), 0.0
-    for key in range(most):
-        begun = time.thread_time()
-        one.put(key, 1)
-        worst = max(worst, time.thread_time() - begun)
-    line(f"the longest of {most} puts, ms", worst * 1000)
-    sparse = Map([26], seats=2)
-    sparse.put(1, 1)
+def one_thread(work: Callable[[Any, Any], None], one: Any, keys: Any) -> float:
     begun = time.thread_time()
-    assert list(sparse) == [1]
-    line("a walk over 2^26 slots with one key, ms", (time.thread_time() - begun) * 1000)
+    work(one, keys)
+    return time.thread_time() - begun
 
 
-def main():
-    print(f"{'':42}" + "".join(f"{head:>9}" for head in ("get", "put", "add", "walk", "get x4", "elapsed")))
-    of_map("Map")
-    of_map("Map, not mixed", mixed=False)
-    of_seats("Seat")
-    of_seats("Seat, not mixed", mixed=False)
-    letting_go()
-    row("a dict behind a lock", [filled(Locked())] * 4, False)
-    parts()
-    longest()
+def four_threads(work: Callable[[Any, Any], None], one: Any, keys: Any) -> float:
+    threads = [threading.Thread(target=work, args=(one, keys)) for _ in range(4)]
+    begun = time.perf_counter()
+    for thread in threads:
+        thread.start()
+    for thread in threads:
+        thread.join()
+    return (time.perf_counter() - begun) / 4
+
+
+def main() -> None:
+    keys = [i % KEYS for i in range(CALLS)]
+    words = array("Q", keys)
+    m, locked = filled(Map()), filled(Locked())
+    rows: list[tuple[str, Callable[[Any, Any], None], Any, Any]] = [
+        ("get", gets, m, keys),
+        ("put", puts, m, keys),
+        ("add", adds, m, keys),
+        ("m[k]", subscripts, m, keys),
+        ("m[k] = n", sets, m, keys),
+        ("a pair of a loop", walks, m, keys),
+        ("get_many", get_batches, m, words),
+        ("put_many", put_batches, m, words),
+        ("add_many", add_batches, m, words),
+        ("a dict behind a lock: get", gets, locked, keys),
+        ("a dict behind a lock: put", puts, locked, keys),
+        ("a dict behind a lock: add", adds, locked, keys),
+    ]
+    print(f"{'':28}{'one thread':>12}{'four':>10}")
+    best = {name: [1e9, 1e9] for name, *_ in rows}
+    for _ in range(ROUNDS):
+        for name, work, one, given in rows:
+            for place, measure in enumerate((one_thread, four_threads)):
+                best[name][place] = min(best[name][place], measure(work, one, given))
+    for name, times in best.items():
+        print(f"{name:28}{times[0] / CALLS * 1e6:12.3f}{times[1] / CALLS * 1e6:10.3f}")
 
 
 main()

@@ -1,55 +1,287 @@
-"""A concurrent map from whole numbers to whole numbers, over libsamvolip. docs/python.md tells how to use it.
+"""A concurrent map from whole numbers to whole numbers, for any thread. docs/python.md tells how to use it.
 
     from samvolip import Map
 
-    with Map.for_keys(10_000) as counts:
-        counts.add(7, 1)  # any thread may call
-        print(counts[7])
+    counts = Map()
+    counts.add(7)  # from any thread
+    print(counts[7])
 
-`Map` gives each thread a seat, the right to call, at its first call. `Seat` is that right in the open. After a fork make no call
-in the child, unless the parent had one thread alone.
+The calls of a key are those of src/_map.c. Here is what a MutableMapping has beside them.
 """
 
-from .codes import (
-    KEY_MAX,
-    MOST_KEYS,
-    VALUE_MAX,
-    VERSION,
-    Change,
-    Code,
-    Full,
-    NoSeat,
-    NotAllSeats,
-    Refused,
-    WalkCutOff,
-    Want,
-)
-from .maps import SEATS, Map
-from .numbers import mix, unmix
-from .occupancy import Occupancy
-from .seats import Ended, Seat
-from .shapes import exponents_for_churn, exponents_for_keys
+from __future__ import annotations
 
-__all__ = [
-    "KEY_MAX",
-    "MOST_KEYS",
-    "SEATS",
-    "VALUE_MAX",
-    "VERSION",
-    "Change",
-    "Code",
-    "Ended",
-    "Full",
-    "Map",
-    "NoSeat",
-    "NotAllSeats",
-    "Occupancy",
-    "Refused",
-    "Seat",
-    "WalkCutOff",
-    "Want",
-    "exponents_for_churn",
-    "exponents_for_keys",
-    "mix",
-    "unmix",
-]
+import copy
+import heapq
+import itertools
+import operator
+from array import array
+from collections.abc import Callable, ItemsView, Iterable, Iterator, KeysView, Mapping, MutableMapping, ValuesView
+from typing import Any, NamedTuple, Protocol, SupportsIndex, TypeVar
+
+from ._map import KEY_MAX, VALUE_MAX, VERSION, Base, Walk, check_signs
+
+__all__ = ["KEY_MAX", "VALUE_MAX", "Figures", "Map"]
+__version__ = f"{VERSION >> 16}.{VERSION >> 8 & 255}.{VERSION & 255}"
+
+_KINDS = {"secret": 0, "mixed": 1, "as they are": 2}  # what becomes of keys, as SAMVOLIP_KEYS_SECRET and so on
+_KEYS, _VALUES, _ITEMS = range(3)  # what a Walk shows
+
+_Self = TypeVar("_Self", bound="Map")
+
+
+class _HasKeys(Protocol):
+    """What dict.update takes, beside pairs."""
+
+    def keys(self) -> Iterable[Any]: ...
+
+    def __getitem__(self, key: Any) -> SupportsIndex: ...
+
+
+class Figures(NamedTuple):
+    """What happened to a map so far, and how large it is. Times are in nanoseconds."""
+
+    renewals: int  # how often it was made anew
+    refused: int  # renewals that were refused memory
+    write_stop: int  # the longest time that writes had to wait for a renewal or the like
+    read_stop: int  # the same of reads
+    all_stops: int  # all those times of writes together
+    slots: int  # of the table in use; each takes 16 bytes
+    keys: int  # about how many there are
+    own_threads: int  # threads that have a way of their own into the map
+
+
+def _words(numbers: Any) -> bytes:
+    """Whole numbers as words of 64 bits, one after another: a copy, so that nobody changes them meanwhile."""
+    try:
+        view = memoryview(numbers)
+    except TypeError:
+        return array("Q", numbers).tobytes()
+    with view:
+        if view.ndim != 1:
+            raise TypeError(f"a buffer has one dimension, not {view.ndim}")
+        kind = view.format.lstrip("@=<")
+        if view.itemsize != 8 or kind not in ("Q", "L", "N", "q", "l", "n"):
+            return array("Q", view.tolist()).tobytes()
+        return view.tobytes() if kind.isupper() else check_signs(view.tobytes())
+
+
+def _number_or_words(numbers: SupportsIndex | Iterable[SupportsIndex]) -> SupportsIndex | bytes:
+    """One number for all keys, or as many as there are keys."""
+    return _words(numbers) if isinstance(numbers, Iterable) else numbers
+
+
+class _Keys(KeysView[int]):
+    _mapping: Map
+
+    def __contains__(self, key: object) -> bool:
+        try:
+            return key in self._mapping
+        except (TypeError, OverflowError):  # as of a set: what can't be a key isn't there
+            return False
+
+    def __iter__(self) -> Iterator[int]:
+        return Walk(self._mapping, _KEYS)
+
+
+class _Items(ItemsView[int, int]):
+    _mapping: Map
+
+    def __contains__(self, item: object) -> bool:
+        return isinstance(item, tuple) and len(item) == 2 and item[0] in self._mapping.keys() and self._mapping.get(item[0]) == item[1]
+
+    def __iter__(self) -> Iterator[tuple[int, int]]:
+        return Walk(self._mapping, _ITEMS)
+
+
+class _Values(ValuesView[int]):
+    _mapping: Map
+
+    def __contains__(self, number: object) -> bool:
+        return any(number == one for one in self)
+
+    def __iter__(self) -> Iterator[int]:
+        return Walk(self._mapping, _VALUES)
+
+
+class Map(Base, MutableMapping[int, int]):  # type: ignore[misc]
+    """A map that any thread may call. Keys go from 0 to KEY_MAX, numbers to VALUE_MAX.
+
+    Each call is one step for all threads, but for those that docs/python.md names. What isn't a whole number is refused by
+    TypeError, a number out of range by OverflowError, and a write that gets no memory by MemoryError; it has changed nothing then.
+
+    Loops may lie in one another, and the map may change meanwhile: no key comes twice, and each that stays in the map comes.
+    """
+
+    __slots__ = ("__weakref__", "_options", "_shown")
+    _options: tuple[SupportsIndex, ...]
+    _shown: list[int]  # keys for popitem to try, which the map had
+
+    def __init__(
+        self,
+        pairs: _HasKeys | Iterable[tuple[SupportsIndex, SupportsIndex]] = (),
+        /,
+        *,
+        room: SupportsIndex = 0,
+        memory: SupportsIndex = 0,
+        growth: SupportsIndex = 0,
+        threads: SupportsIndex = 0,
+        keys: str = "secret",
+    ) -> None:
+        """A map of these entries. 0 stands for the default.
+
+        room: for how many keys there is room at first, and at least: 1000.
+        memory: how many bytes tables take at most, old and new ones together: any number.
+        growth: a renewal makes room for so many times the keys that there are, 2 to 64: 4.
+        threads: how many threads have a way of their own into the map, up to 240: 64. Others share six.
+        keys: "secret", they are mixed with a secret of the map; "mixed", they are mixed; "as they are", nothing.
+        """
+        if keys not in _KINDS:
+            raise ValueError(f"keys are one of {', '.join(map(repr, _KINDS))}, not {keys!r}")
+        self._open((room, memory, growth, threads, _KINDS[keys]))
+        self.update(pairs)
+
+    def _open(self, options: tuple[SupportsIndex, ...]) -> None:
+        super().__init__(*options)
+        self._options, self._shown = options, []
+
+    @classmethod
+    def fromkeys(cls: type[_Self], keys: Iterable[SupportsIndex], number: SupportsIndex = 0, /) -> _Self:
+        """A map with this number at each of the keys."""
+        made = cls()
+        made.put_many(keys, number)
+        return made
+
+    def compute(self, key: SupportsIndex, function: Callable[[int | None], int | None], /) -> int | None:
+        """Puts at a key what the function makes of the number there. None is no number, before and after. What it made.
+
+        If others write the key meanwhile, the function is called again, with what is there then. It may call the map.
+        """
+        before = self.get(key)
+        while True:
+            after = function(before)
+            found = self.compare_exchange(key, before, after)
+            if found == before:
+                return after
+            before = found
+
+    def popitem(self) -> tuple[int, int]:
+        """Takes some key out, with its number. KeyError if there is none."""
+        while True:
+            try:
+                key = self._shown.pop()
+            except IndexError:
+                shown = list(itertools.islice(self, 1000))
+                if not shown:
+                    raise KeyError("popitem(): the map is empty") from None
+                self._shown = shown
+                continue
+            number = self.remove(key)
+            if number is not None:
+                return key, number
+
+    # walks
+
+    def __iter__(self) -> Iterator[int]:
+        return Walk(self, _KEYS)
+
+    def keys(self) -> KeysView[int]:
+        """The keys: a set, of which a loop is a walk."""
+        return _Keys(self)
+
+    def values(self) -> ValuesView[int]:
+        """The numbers, of which a loop is a walk."""
+        return _Values(self)
+
+    def items(self) -> ItemsView[int, int]:
+        """The keys with their numbers: a set, of which a loop is a walk."""
+        return _Items(self)
+
+    # many keys. While a batch runs, other threads of the interpreter go on
+
+    def put_many(self, keys: Iterable[SupportsIndex], numbers: SupportsIndex | Iterable[SupportsIndex], /) -> None:
+        """Puts a number at each key: one for all, or as many as there are keys. Each put is a step of its own."""
+        self._put_words(_words(keys), _number_or_words(numbers))
+
+    def add_many(self, keys: Iterable[SupportsIndex], numbers: SupportsIndex | Iterable[SupportsIndex] = 1, /) -> None:
+        """Adds a number at each key: one for all, or as many as there are keys. Each add is a step of its own."""
+        self._add_words(_words(keys), _number_or_words(numbers))
+
+    def get_many(self, keys: Iterable[SupportsIndex], default: SupportsIndex = 0, /) -> array[int]:
+        """The number at each key, or the default, which is a word of 64 bits."""
+        return array("Q", self._get_words(_words(keys), default))
+
+    def update(self, pairs: _HasKeys | Iterable[tuple[SupportsIndex, SupportsIndex]] = (), /) -> None:  # type: ignore[override]
+        """Puts the numbers of another mapping, or of pairs. All are read first; then each put is a step of its own."""
+        if isinstance(pairs, Map):
+            self.put_many(*pairs.snapshot_arrays())
+            return
+        given: Any = pairs
+        if isinstance(given, Mapping):
+            given = given.items()
+        elif hasattr(given, "keys"):
+            given = [(key, given[key]) for key in given.keys()]
+        read = [(key, number) for key, number in given]
+        self.put_many([key for key, _ in read], [number for _, number in read])
+
+    # the whole map
+
+    def snapshot(self) -> dict[int, int]:
+        """All entries of one moment."""
+        return dict(zip(*self.snapshot_arrays()))
+
+    def snapshot_arrays(self) -> tuple[array[int], array[int]]:
+        """The keys of one moment, and their numbers."""
+        words = array("Q", self._snapshot_words())
+        return words[::2], words[1::2]
+
+    def __eq__(self, other: object) -> bool:
+        if not isinstance(other, Mapping):
+            return NotImplemented
+        return self.snapshot() == (other.snapshot() if isinstance(other, Map) else dict(other.items()))
+
+    def __or__(self: _Self, other: Mapping[int, int]) -> _Self:
+        if not isinstance(other, Mapping):
+            return NotImplemented
+        made = self.copy()
+        made.update(other)
+        return made
+
+    def __ror__(self: _Self, other: Mapping[int, int]) -> _Self:
+        if not isinstance(other, Mapping):
+            return NotImplemented
+        made = _made(type(self), self._options)
+        made.update(other)
+        made.update(self)
+        return made
+
+    def __ior__(self: _Self, pairs: _HasKeys | Iterable[tuple[SupportsIndex, SupportsIndex]]) -> _Self:  # type: ignore[misc]
+        self.update(pairs)
+        return self
+
+    def __repr__(self) -> str:
+        return f"{type(self).__name__}({self.snapshot()})"
+
+    def copy(self: _Self) -> _Self:
+        """A map of its own, with the entries of one moment and the same options."""
+        return copy.copy(self)
+
+    def __reduce__(self) -> tuple[Any, ...]:
+        return _made, (type(self), self._options, *self.snapshot_arrays()), getattr(self, "__dict__", None)
+
+    def most_common(self, n: int | None = None, /) -> list[tuple[int, int]]:
+        """The n keys with the greatest numbers, or all, of one moment: the greatest first."""
+        items, number = self.snapshot().items(), operator.itemgetter(1)
+        return sorted(items, key=number, reverse=True) if n is None else heapq.nlargest(n, items, key=number)
+
+    def figures(self) -> Figures:
+        """What happened so far, and how large the map is."""
+        return Figures(*self._look())
+
+
+def _made(cls: type[_Self], options: tuple[SupportsIndex, ...], keys: Iterable[int] = (), numbers: Iterable[int] = ()) -> _Self:
+    """A map by its options, without a call of the class's own __init__."""
+    made = cls.__new__(cls)
+    made._open(options)
+    made.put_many(keys, numbers)
+    return made

@@ -1,741 +1,722 @@
-"""Threads call one map without seats, by seats of their own and by one seat; and each call once, and each refusal but four.
+"""Each call and each refusal; the map as a MutableMapping; batches; threads, forks, signals and renewals; the page's programs.
 
-The four are want of memory, a contended write, an array that is too small, and a map that was given up while it was closed: no
-call of the package brings one of them about for sure. The programs of docs/python.md run, too.
-
-Where a call is wrong on purpose, a comment says what mypy calls it: mypy has to refuse it there.
+CPython's own tests of a mapping are in test_mapping.py. Where a call is wrong on purpose, a comment says what mypy calls it.
 """
 
 from __future__ import annotations
 
+import collections
+import copy
 import gc
+import multiprocessing
 import os
+import pickle
+import random
 import re
+import resource
 import signal
 import subprocess
 import sys
 import tempfile
 import threading
 import time
+import unittest
+import weakref
+from array import array
+from collections.abc import Callable, MutableMapping
+from typing import Any
 
 import samvolip
-from samvolip import (
-    KEY_MAX,
-    MOST_KEYS,
-    VALUE_MAX,
-    Change,
-    Code,
-    Full,
-    Map,
-    NoSeat,
-    NotAllSeats,
-    Refused,
-    Seat,
-    WalkCutOff,
-    Want,
-    exponents_for_keys,
-    exponents_for_churn,
-    mix,
-    unmix,
-)
-from samvolip.shapes import plan_for_keys
+from samvolip import KEY_MAX, VALUE_MAX, Map
 
 PAGE = os.path.join(os.path.dirname(os.path.abspath(__file__)), "../../../docs/python.md")
+KINDS = ("secret", "mixed", "as they are")
 
 
-def refused(call, *words, **named):
-    """The code by which a call is refused, if it is."""
-    try:
-        call(*words, **named)
-    except Refused as refusal:
-        return refusal.code
-    return None
+def run_all(count: int, work: Callable[[int], object]) -> None:
+    """Runs so many threads, each with its number. What one of them raises is raised here."""
+    raised: list[BaseException] = []
 
-
-def told(call, *words):
-    """What the module itself says of a wrong call, if it is one."""
-    try:
-        call(*words)
-    except (ValueError, OverflowError, TypeError, KeyError, WalkCutOff) as wrong:
-        return str(wrong)
-    return None
-
-
-def run_all(workers):
-    for worker in workers:
-        worker.start()
-    for worker in workers:
-        worker.join()
-
-
-def work(seat, number):
-    for i in range(5000):
-        seat.add((i * 7 + number) % 1000, 1)
-        assert seat.get((i * 7 + number) % 1000) >= 1
-
-
-def threads():
-    first = Seat.open([4, 6, 8, 10, 12], seats=4, stripes=2)
-    seats = [first] + [first.split() for _ in range(3)]
-    assert refused(first.split) == Code.E_NO_SEAT
-    run_all([threading.Thread(target=work, args=(seat, number)) for number, seat in enumerate(seats)])
-    assert sorted(key for key, _ in first.walk()) == list(range(1000))
-    assert refused(first.close) == refused(first.settle) == Code.E_NOT_ALL_SEATS
-    for seat in seats[1:]:
-        first.join(seat)
-    assert first.settle() == 1000
-    assert first.put(1000, 1) is None and first.settle() == 1001 and first.remove(1000) == 1
-    ended = first.close()
-    assert len(ended) == 1000
-    assert sum(number for _, number in ended.entries()) == 20000
-    assert ended.get(1000) is None
-
-
-def alone(function, entered):
-    """A function of the library that takes one call at a time, and ends a thread that comes while another one is in it.
-
-    Each call that comes in adds its words to a list.
-    """
-    inside = threading.Lock()
-
-    def call(*words):
-        assert inside.acquire(blocking=False), "two calls are in one seat"
+    def guarded(number: int) -> None:
         try:
-            entered.append(words)
-            time.sleep(0)  # the other thread may go on
-            return function(*words)
-        finally:
-            inside.release()
+            work(number)
+        except BaseException as error:
+            raised.append(error)
 
-    return call
-
-
-def adds(seat, found):
-    for _ in range(5000):
-        found.append(seat.add(7, 1) or 0)
-
-
-def one_seat():
-    """Two threads call with one seat at once: each call has the seat to itself, and the sum is right."""
-    seat = Seat.open(exponents_for_keys(10))
-    found: tuple[list[int], list[int]] = [], []
-    entered: list[tuple[object, ...]] = []
-    library = samvolip.library.try_add
-    samvolip.library.try_add = alone(library, entered)
-    run_all([threading.Thread(target=adds, args=(seat, mine)) for mine in found])
-    samvolip.library.try_add = library
-    assert len(entered) == 10000
-    assert seat.get(7) == 10000
-    assert sorted(found[0] + found[1]) == list(range(10000))
+    threads = [threading.Thread(target=guarded, args=(number,)) for number in range(count)]
+    for thread in threads:
+        thread.start()
+    for thread in threads:
+        thread.join()
+    if raised:
+        raise raised[0]
 
 
-def calls():
-    seat = Seat.open(exponents_for_keys(10))
-    assert seat.put(1, 2) is None
-    assert seat.put_if_absent(1, 3) == 2
-    assert seat.replace(1, 4) == 2
-    assert not seat.replace_if(1, 2, 5) and seat.replace_if(1, 4, 5)
-    assert seat.add(1, 2) == 5 and seat.get(1) == 7
-    assert seat.put_if_match(1, Want.EQUAL, Change.PUT, old=6, number=8, tries=1) == (7, False)
-    assert seat.size_estimate() == 1
-    assert not seat.remove_if(1, 4) and seat.remove(1) == 7
-    assert seat.put(1, 4) is None and seat.remove_if(1, 4)
-    assert seat.get(1) is None and seat.size_estimate() == 0
-    assert refused(seat.get, KEY_MAX + 1) == Code.E_KEY_RANGE
-    assert refused(seat.put, 1, VALUE_MAX + 1) == Code.E_VALUE_RANGE
-    assert refused(seat.put_if_match, 1, 9, Change.PUT) == Code.E_WANT
-    assert refused(seat.put_if_match, 1, Want.ANY, 9) == Code.E_CHANGE
-    assert seat.put(1, VALUE_MAX) is None
-    assert refused(seat.add, 1, 1) == Code.E_SUM_RANGE
-    assert told(seat.get, -1) == "-1 isn't from 0 to 2^64 - 1"
-    assert told(seat.put, 1, 2**64) == "18446744073709551616 isn't from 0 to 2^64 - 1"
-    assert told(seat.put_if_match, 1, Want.ANY, Change.PUT, 0, 0, -1) == "-1 isn't from 0 to 2^32 - 1"
-    for call in (
-        lambda: seat.get("a"),  # type: ignore[call-overload]
-        lambda: seat.put(1, 1.5),  # type: ignore[arg-type]
-        lambda: seat.put_if_match(1, None, 0),  # type: ignore[arg-type]
-        lambda: seat.add(None, 1),  # type: ignore[arg-type]
-    ):
-        assert "integer" in told(call)
-    seat.free()
-    seat.free()
-    assert told(seat.get, 1) == "the seat is empty"
+class Calls(unittest.TestCase):
+    """What each call of a key answers."""
+
+    def test_dict(self):
+        m = Map()
+        m[1] = 2
+        self.assertEqual((m[1], m.get(1), m.get(2), m.get(2, 7), m.get(1, 7)), (2, 2, None, 7, 2))
+        self.assertTrue(1 in m and 2 not in m)
+        self.assertEqual((m.setdefault(1, 5), m.setdefault(2, 5), m.setdefault(3), len(m)), (2, 5, 0, 3))
+        self.assertEqual((m.pop(2), m.pop(2, 9), m.pop(2, None)), (5, 9, None))
+        del m[3]
+        for call in (lambda: m[3], lambda: m.pop(3), lambda: m.__delitem__(3)):
+            with self.assertRaises(KeyError) as raised:
+                call()
+            self.assertEqual(raised.exception.args, (3,))
+        self.assertEqual(m.popitem(), (1, 2))
+        self.assertRaises(KeyError, m.popitem)
+
+    def test_writes(self):
+        m = Map()
+        self.assertEqual((m.put(1, 2), m.put(1, 3), m[1]), (None, 2, 3))
+        self.assertEqual((m.put_if_absent(1, 4), m.put_if_absent(2, 4), m[1], m[2]), (3, None, 3, 4))
+        self.assertEqual((m.replace(1, 5), m.replace(3, 5), m.get(1), m.get(3)), (3, None, 5, None))
+        self.assertEqual((m.replace_if(1, 4, 6), m.replace_if(1, 5, 6), m.replace_if(3, 0, 6), m[1]), (False, True, False, 6))
+        self.assertEqual((m.add(1), m.add(1, 3), m.add(4, 2), m.add(5), m[1], m[4], m[5]), (6, 7, None, None, 10, 2, 1))
+        self.assertEqual((m.fetch_max(1, 9), m.fetch_max(1, 11), m.fetch_max(6, 1), m[1], m[6]), (10, 10, None, 11, 1))
+        self.assertEqual((m.fetch_min(1, 12), m.fetch_min(1, 4), m.fetch_min(7, 1), m[1], m[7]), (11, 11, None, 4, 1))
+        self.assertEqual((m.remove_if(1, 5), m.remove_if(1, 4), m.remove_if(1, 4), m.remove(1)), (False, True, False, None))
+        self.assertEqual((m.remove(2), 2 in m), (4, False))
+
+    def test_compare_exchange(self):
+        m = Map({1: 2})
+        exchange = m.compare_exchange
+        self.assertEqual((exchange(1, 3, 4), m[1], exchange(1, None, 4), m[1]), (2, 2, 2, 2))
+        self.assertEqual((exchange(1, 2, 4), m[1], exchange(1, 4, None), 1 in m), (2, 4, 4, False))
+        self.assertEqual((exchange(1, 4, 5), exchange(1, None, None), 1 in m), (None, None, False))
+        self.assertEqual((exchange(1, None, 6), m[1]), (None, 6))
+
+    def test_compute(self):
+        m = Map({1: 2})
+        self.assertEqual((m.compute(1, lambda n: n and n + 1), m[1]), (3, 3))
+        self.assertEqual((m.compute(1, lambda n: None), 1 in m), (None, False))
+        self.assertEqual((m.compute(1, lambda n: 0 if n is None else 1), m[1]), (0, 0))
+        self.assertEqual((m.compute(1, lambda n: m.put(1, 7) if n == 0 else n), m[1]), (7, 7))
+        with self.assertRaises(ZeroDivisionError):
+            m.compute(1, lambda n: 1 // 0)
+        self.assertRaises(TypeError, m.compute, 1, lambda n: "a")
+        self.assertRaises(OverflowError, m.compute, 1, lambda n: -1)
+        self.assertEqual(m[1], 7)
+
+    def test_extremes(self):
+        for kind in KINDS:
+            m = Map(keys=kind)
+            for key in (0, KEY_MAX, KEY_MAX - 1, 2**63, 1):
+                self.assertIsNone(m.put(key, VALUE_MAX))
+                self.assertEqual((m[key], m.remove_if(key, VALUE_MAX), m.put(key, 0), m[key]), (VALUE_MAX, True, None, 0))
+            self.assertEqual(sorted(m), [0, 1, 2**63, KEY_MAX - 1, KEY_MAX])
+        self.assertEqual((KEY_MAX, VALUE_MAX), (2**64 - 3, 2**60 - 1))
+
+    def test_what_is_a_whole_number(self):
+        class Seven:
+            def __index__(self):
+                return 7
+
+        class Broken:
+            def __index__(self):
+                raise ZeroDivisionError
+
+        m = Map({Seven(): True})
+        self.assertEqual((m[7], type(m[7]), m[Seven()], m.get(False), Seven() in m.keys()), (1, int, 1, None, True))
+        self.assertRaises(ZeroDivisionError, m.get, Broken())
 
 
-def broken_shapes():
-    assert refused(exponents_for_keys, MOST_KEYS + 1) == refused(exponents_for_keys, 2**64 - 1) == Code.E_TABLES
-    for live, ever in [(0, 715827884), (2**25, 380283564), (2**25 + 1, 0), (2**64 - 1, 1), (1, 2**64 - 1)]:
-        assert refused(exponents_for_churn, live, ever) == Code.E_TABLES
-    assert told(exponents_for_churn, -1, 1) == told(exponents_for_churn, 1, -1) == "-1 isn't from 0 to 2^64 - 1"
-    broken: list[tuple[Code, list[int], dict[str, int]]] = [
-        (Code.E_TABLES, [], {}),
-        (Code.E_TABLES, [4] * 17, {}),
-        (Code.E_EXPONENTS, [1], {}),
-        (Code.E_FALLING, [5, 4], {}),
-        (Code.E_SLOTS, [2, 28, 28, 28, 28], {}),
-        (Code.E_SEATS, [4], {"seats": 257}),
-        (Code.E_STRIPES, [4], {"stripes": 257}),
-        (Code.E_REPROBES, [4], {"reprobes": 0}),
-        (Code.E_CHUNK, [4], {"chunk": 2}),
-    ]
-    for code, exponents, named in broken:
-        assert refused(Seat.open, exponents, **named) == code
-    samvolip.library.HEADER.version += 1
-    assert refused(Seat.open, [4]) == Code.E_VERSION
-    samvolip.library.HEADER.version -= 1
-    for opened in (Seat.open, Map):
-        wrong = "4294967297 isn't from 0 to 2^32 - 1"
-        assert told(opened, [2**32 + 1]) == told(opened, [4], 2**32 + 1) == told(opened, [4], 1, 2**32 + 1) == wrong
-        assert told(opened, [4], 1, 1, 2**32 + 1) == told(opened, [4], 1, 1, 1, 2**32 + 1) == wrong
-    for planned in (Seat.for_keys, Map.for_keys):
-        assert told(planned, -1) == "-1 isn't from 0 to 2^64 - 1"
-        assert told(planned, 10, -1) == "-1 isn't from 0 to 2^32 - 1"
-        assert told(planned, 10, 2**32 + 1) == "4294967297 isn't from 0 to 2^32 - 1"
-        assert "integer" in told(planned, 10.0)
-        assert refused(planned, 2**30) == Code.E_TABLES
-        assert refused(planned, 10, 0) == refused(planned, 10, 257) == Code.E_SEATS
-        assert refused(planned, MOST_KEYS, 0) == refused(planned, MOST_KEYS, 257) == Code.E_SEATS
+class Refusals(unittest.TestCase):
+    """What is refused, by which exception; and then nothing has changed."""
+
+    def calls_of_a_key(self, m: Any) -> list[Callable[[Any], Any]]:
+        return [
+            m.get,
+            m.remove,
+            m.pop,
+            m.add,
+            m.setdefault,
+            m.__getitem__,
+            m.__contains__,
+            m.__delitem__,
+            lambda key: m.get(key, 1),
+            lambda key: m.pop(key, 1),
+            lambda key: m.__setitem__(key, 1),
+            lambda key: m.compute(key, lambda n: 1),
+            lambda key: m.compare_exchange(key, None, 1),
+            lambda key: m.replace_if(key, 1, 2),
+            lambda key: m.remove_if(key, 1),
+            *(lambda key, call=call: call(key, 1) for call in self.writes(m)),
+            *(lambda key, call=call: call([3, key]) for call in (m.add_many, m.get_many)),
+            lambda key: m.put_many([3, key], 1),
+            lambda key: m.update([(3, 3), (key, 1)]),
+            lambda key: m.fromkeys([key]),
+            lambda key: Map({key: 1}),
+        ]
+
+    def writes(self, m: Any) -> list[Any]:
+        return [m.put, m.put_if_absent, m.replace, m.add, m.fetch_max, m.fetch_min, m.setdefault]
+
+    def test_keys(self):
+        m = Map({1: 2})
+        for call in self.calls_of_a_key(m):
+            for key in (-1, KEY_MAX + 1, 2**64, -(10**30)):
+                self.assertRaises(OverflowError, call, key)
+            for wrong in (1.0, "a", None, b"1", (1,), m):
+                self.assertRaises(TypeError, call, wrong)
+            self.assertEqual(m.snapshot(), {1: 2})
+
+    def test_numbers(self):
+        m: Any = Map({1: 2})
+        calls: list[Callable[[Any], Any]] = [
+            *(lambda number, call=call: call(1, number) for call in self.writes(m)),
+            *(lambda number, call=call: call(9, number) for call in self.writes(m)),
+            lambda number: m.__setitem__(1, number),
+            lambda number: m.replace_if(1, number, 3),
+            lambda number: m.replace_if(1, 2, number),
+            lambda number: m.remove_if(1, number),
+            *(lambda number, call=call: call([1, 2], number) for call in (m.put_many, m.add_many)),
+            *(lambda number, call=call: call([1, 2], [1, number]) for call in (m.put_many, m.add_many)),
+            lambda number: m.update({1: 3, 2: number}),
+            lambda number: Map({1: number}),
+        ]
+        for call in calls:
+            for number in (-1, VALUE_MAX + 1, 2**64):
+                self.assertRaises(OverflowError, call, number)
+            for wrong in (2.0, "a", None, [None]):
+                self.assertRaises(TypeError, call, wrong)
+            self.assertEqual(m.snapshot(), {1: 2})
+        for words in ((1, -1, 2), (1, 2, -1), (1, 2, VALUE_MAX + 1)):
+            self.assertRaises(OverflowError, m.compare_exchange, *words)
+        self.assertRaises(TypeError, m.compare_exchange, 1, 2, 3.0)
+
+    def test_texts(self):
+        m: Any = Map({1: VALUE_MAX})
+        for call, text in [
+            (lambda: m[-1], "a key is from 0 to 2**64 - 3, not -1"),
+            (lambda: m.put(1, 2**60), "a value is from 0 to 2**60 - 1, not 1152921504606846976"),
+            (lambda: m[1.5], "a key is a whole number, not float"),
+            (lambda: m.add(1, "a"), "a value is a whole number, not str"),
+            (lambda: m[10**5000], "a key is from 0 to 2**64 - 3"),
+            (lambda: m.add(1), "the sum is past 2**60 - 1"),
+            (lambda: m.add_many([2, 1, 3]), "sum too large at key 1; the 1 calls before it were made"),
+            (lambda: m.add_many([3, KEY_MAX + 1]), "a key is from 0 to 2**64 - 3, not 18446744073709551614, at place 1"),
+            (lambda: m.add_many(array("q", [3, -2])), "no key and no value is negative, as -2 at place 1 is"),
+            (lambda: m.put_many([3, 4], [1]), "there are 2 keys, and 1 numbers"),
+            (lambda: m.put_many(memoryview(bytes(16)).cast("Q", (1, 2)), 1), "a buffer has one dimension, not 2"),
+            (lambda: m.put(1), "put() takes 2 arguments, not 1"),
+            (lambda: m.add(), "add() takes 1 or 2 arguments, not 0"),
+            (lambda: Map(keys="hashed"), "keys are one of 'secret', 'mixed', 'as they are', not 'hashed'"),
+            (lambda: Map(growth=1), "an option out of range"),
+            (lambda: samvolip.Map.__new__(Map).get(1), "the map isn't open: its __init__ wasn't called"),
+        ]:
+            with self.assertRaises((OverflowError, TypeError, ValueError)) as raised:
+                call()
+            self.assertEqual(str(raised.exception), text)
+        self.assertEqual(m.snapshot(), {1: VALUE_MAX, 2: 1})
+
+    def test_arguments(self):
+        m: Any = Map()
+        for call in (m.get, m.put, m.put_if_absent, m.replace, m.add, m.fetch_max, m.fetch_min, m.setdefault, m.pop):
+            self.assertRaises(TypeError, call)
+            self.assertRaises(TypeError, call, 1, 2, 3)
+        for call in (m.replace_if, m.remove_if, m.compare_exchange, m.remove, m.compute, m.put_many, m.get_many, m.add_many, m.renew):
+            self.assertRaises(TypeError, call, *range(4))
+        for call in (m.clear, m.size_estimate, m.snapshot, m.figures, m.leave, m.popitem, m.copy, m.snapshot_arrays):
+            self.assertRaises(TypeError, call, 1)
+        self.assertRaises(TypeError, m.put, 1)
+        for wrong in (5, [1], [(1, 2, 3)]):
+            self.assertRaises((TypeError, ValueError), m.update, wrong)
+
+    def test_options(self):
+        for name, number in [("room", 2**28), ("growth", 1), ("growth", 65), ("threads", 241)]:
+            self.assertRaises(ValueError, Map, **{name: number})
+        for name, number in [("room", 2**64), ("memory", -1), ("growth", 2**32), ("threads", -1)]:
+            self.assertRaises(OverflowError, Map, **{name: number})
+        self.assertRaises(TypeError, Map, room=1.5)
+        self.assertRaises(TypeError, Map, hello=1)
+        self.assertRaises(ValueError, Map.__init__, Map())
+        self.assertEqual(Map(room=10_000, memory=2**20, growth=2, threads=1, keys="mixed").figures().slots, 16384)
+
+    def test_memory(self):
+        m = Map(memory=2**16)
+        with self.assertRaises(MemoryError):
+            for key in range(100_000):
+                m[key] = key
+        count = len(m)
+        self.assertTrue(1000 < count < 4096)
+        with self.assertRaises(MemoryError) as raised:
+            m.put_many(range(100_000, 200_000), 5)
+        made = int(re.search(r"the (\d+) calls before it were made", str(raised.exception))[1])  # type: ignore[index]
+        self.assertEqual((len(m), m[0]), (count + made, 0))
+        self.assertRaises(MemoryError, m.renew, 2**62)
+        self.assertTrue(m.figures().refused > 0)
+        while len(m) > 500:
+            m.popitem()
+        m.renew()
+        m.update(dict.fromkeys(range(10**6, 10**6 + 500), 1))
+        self.assertRaises(MemoryError, Map, memory=1)
 
 
-def grows():
-    seat = Seat.open([2, 4])
-    assert seat.generation() == 0
-    for key in range(16):
-        assert seat.put(key, 16 - key) is None
-        seen = seat.occupancy()
-        assert seen.should_renew() == (seen.is_last and seen.taken > 10)
-    assert seat.generation() == 1
-    assert seat.occupancy() == (True, 16, 16)
-    assert refused(seat.put, 16, 0) == Code.E_FULL
+class Mapping(unittest.TestCase):
+    """What is expected of any MutableMapping."""
+
+    def test_kind(self):
+        m = Map({1: 2})
+        self.assertTrue(isinstance(m, MutableMapping))
+        self.assertRaises(TypeError, hash, m)
+        with self.assertRaises(AttributeError):
+            m.other = 1  # type: ignore[attr-defined]
+        match m:
+            case {1: two}:
+                self.assertEqual(two, 2)
+            case _:
+                self.fail()
+        self.assertEqual(collections.ChainMap({3: 4}, m)[1], 2)
+        self.assertTrue(weakref.ref(m)() is m)
+
+    def test_equal(self):
+        m = Map({1: 2, 3: 4})
+        self.assertTrue(m == {3: 4, 1: 2} and {3: 4, 1: 2} == m and m == Map([(1, 2), (3, 4)]) and m != {1: 2} and m != {"a": 1})
+        self.assertTrue(m != [(1, 2)] and Map() == {} and not Map() and m)
+
+    def test_update(self):
+        class HasKeys:
+            def keys(self):
+                return [1, 2]
+
+            def __getitem__(self, key: int) -> int:
+                return key * 10
+
+        m = Map()
+        for pairs in ({1: 2}, [(3, 4)], iter([[5, 6]]), HasKeys(), Map({7: 8}), Map({9: 1}).items(), zip([11], [12]), collections.Counter([13])):
+            m.update(pairs)  # type: ignore[arg-type]
+        self.assertEqual(m, {1: 10, 2: 20, 3: 4, 5: 6, 7: 8, 9: 1, 11: 12, 13: 1})
+        m.update(m)
+        m.update()
+        self.assertEqual((len(m), Map.fromkeys([1, 2]), Map.fromkeys(range(2), 5)), (8, {1: 0, 2: 0}, {0: 5, 1: 5}))
+
+    def test_or(self):
+        m = Map({1: 2})
+        self.assertEqual((m | {1: 3, 4: 5}, {1: 3, 4: 5} | m, m), ({1: 3, 4: 5}, {1: 2, 4: 5}, {1: 2}))
+        self.assertTrue(type(m | {}) is type({} | m) is Map)
+        before = m
+        m |= {6: 7}
+        m |= [(8, 9)]
+        self.assertTrue(before is m and m == {1: 2, 6: 7, 8: 9})
+        for wrong in (lambda: m | [(1, 2)], lambda: [(1, 2)] | m):  # type: ignore[operator]
+            self.assertRaises(TypeError, wrong)
+
+    def test_views(self):
+        m = Map({1: 2, 3: 4})
+        keys, items, values = m.keys(), m.items(), m.values()
+        m[5] = 4
+        self.assertEqual((keys, sorted(values), items), ({1, 3, 5}, [2, 4, 4], {(1, 2), (3, 4), (5, 4)}))
+        self.assertEqual((len(keys), keys & {1, 9, "a"}, {1, 9} - keys, keys | {9}, keys ^ {1}), (3, {1}, {9}, {1, 3, 5, 9}, {3, 5}))
+        self.assertTrue(1 in keys and 2 not in keys and "a" not in keys and -1 not in keys and 1.0 not in keys)
+        self.assertTrue((1, 2) in items and (1, 3) not in items and (2, 2) not in items and (1,) not in items and 1 not in items)
+        self.assertTrue(4 in values and 3 not in values and "a" not in values and keys.isdisjoint({2}))
+        self.assertEqual((items & {(1, 2), (1, 5)}, dict(m), dict(m.items()), {**m}), ({(1, 2)}, m, m, m))
+
+    def test_copies(self):
+        class Named(Map):
+            def __init__(self, name: str) -> None:
+                super().__init__({1: 2}, keys="mixed")
+                self.name = name
+
+        for m in (Map(), Map({1: 2}), Map(zip(range(5000), range(5000)), keys="as they are", growth=2), Named("a")):
+            for other in (m.copy(), copy.copy(m), copy.deepcopy(m), *(pickle.loads(pickle.dumps(m, p)) for p in (2, 5) if type(m) is Map)):
+                self.assertTrue(other == m and other is not m and type(other) is type(m) and other._options == m._options)
+                other[10**6] = 1
+                self.assertNotIn(10**6, m)
+        self.assertEqual(Named("a").copy().name, "a")
+
+    def test_repr(self):
+        self.assertEqual((repr(Map()), repr(Map({1: 2})), eval(repr(Map({3: 4, 1: 2})))), ("Map({})", "Map({1: 2})", {1: 2, 3: 4}))
+
+    def test_popitem(self):
+        numbers = {random.randrange(KEY_MAX): number for number in range(20_000)}
+        m = Map(numbers)
+        self.assertEqual(dict(m.popitem() for _ in range(len(numbers))), numbers)
+        self.assertEqual((len(m), m.get(1)), (0, None))
+        m[1] = 1
+        self.assertEqual(m.popitem(), (1, 1))
+
+    def test_most_common(self):
+        m = Map()
+        m.add_many(b"mississippi")
+        self.assertEqual(set(m.most_common(2)), {(ord("s"), 4), (ord("i"), 4)})
+        self.assertEqual(([n for _, n in m.most_common()], m.most_common(0)), ([4, 4, 2, 1], []))
 
 
-def fullness():
-    """How full the top table is. A removed key's slot stays taken, until the map is renewed."""
-    seat = Seat.open([2, 5], mixed=False)
-    assert seat.occupancy() == (False, 4, 0)
-    seat.update((key, key) for key in range(10))
-    assert seat.occupancy() == (True, 32, 10)
-    for key in range(10, 21):
-        assert seat.put(key, key) is None and seat.remove(key) == key
-    assert seat.occupancy() == (True, 32, 21) and not seat.occupancy().should_renew()
-    seat[21] = 1
-    assert seat.occupancy() == (True, 32, 22) and seat.occupancy().should_renew()
-    seat.renew([5])
-    assert seat.occupancy() == (True, 32, 11) and not seat.occupancy().should_renew()
+class Loops(unittest.TestCase):
+    """Walks: nested, while the map changes, and across renewals."""
+
+    def test_nested(self):
+        for kind in KINDS:
+            m = Map(zip(range(100), range(100)), keys=kind)
+            trips = [(a, b, c[0]) for a in m for b in m.values() for c in m.items() if c[0] % 10 == 0]
+            self.assertEqual((len(trips), len(set(trips))), (100_000, 100_000))
+
+    def test_changes(self):
+        m = Map({key: 0 for key in range(1000)})
+        for key in m:
+            if key < 1000:
+                del m[key]
+                m[10**6 + key] = 1
+        self.assertEqual(sum(1 for key in m if key < 1000), 0)
+        shown = []
+        for key in m:  # it stays with the tables in which it began
+            if key % 100 == 0:
+                m.renew(50_000)
+                m[2 * 10**6 + key] = 1
+            shown.append(key)
+        self.assertEqual(sorted(shown), sorted(set(shown)))
+        self.assertTrue(set(range(10**6, 10**6 + 1000)) <= set(shown))
+
+    def test_ends(self):
+        m = Map({1: 2})
+        walk = iter(m.items())
+        self.assertEqual((iter(walk) is walk, list(walk), list(walk)), (True, [(1, 2)], []))
+        walk = iter(m.items())
+        del m
+        gc.collect()
+        self.assertEqual(list(walk), [(1, 2)])
+
+    def test_many_at_a_time(self):
+        m = Map(zip(range(200), range(200)))
+        walks = [iter(m) for _ in range(500)]
+        for walk in walks:
+            next(walk)
+        m.clear()
+        self.assertEqual((len(m), {len(list(walk)) for walk in walks}), (0, {199}))
+
+    def test_of_another_thread(self):
+        m = Map(zip(range(1000), range(1000)))
+        walk = iter(m)
+        shown = [next(walk) for _ in range(500)]
+        run_all(1, lambda _: shown.extend(walk))
+        self.assertEqual(sorted(shown), list(range(1000)))
 
 
-def joins():
-    mine = Seat.open([4], seats=2)
-    yours, other = mine.split(), Seat.open([4])
-    assert told(mine.join, mine) == told(mine.join, other) == "not two seats of one map"
-    mine.put(3, 4)
-    assert yours.put(2, 5) is None
-    mine.join(yours)
-    assert told(mine.join, yours) == told(yours.join, mine) == "the seat is empty"
-    ended = mine.close()
-    assert told(mine.close) == "the seat is empty"
-    assert len(ended) == 2 and ended.entries() == [(2, 5), (3, 4)]
-    assert ended.get(3) == 4 and ended.get(4) is None
-    assert refused(ended.get, KEY_MAX + 1) == Code.E_KEY_RANGE
-    elsewhere = []
-    run_all([threading.Thread(target=lambda: elsewhere.append(told(len, ended)))])
-    assert elsewhere == ["an ended map stays on its thread"]
+class Whole(unittest.TestCase):
+    """Calls of the whole map, and how it lives and ends."""
+
+    def test_whole(self):
+        m = Map(zip(range(5000), range(5000)))
+        keys, numbers = m.snapshot_arrays()
+        self.assertEqual((dict(zip(keys, numbers)), m.snapshot()), (m, {key: key for key in range(5000)}))
+        self.assertEqual((len(m), m.size_estimate()), (5000, 5000))
+        before = m.figures()
+        m.renew(20_000)
+        after = m.figures()
+        self.assertEqual((after.renewals - before.renewals, after.slots, after.keys, after.own_threads, after.refused), (1, 32768, 5000, 1, 0))
+        self.assertTrue(0 < after.read_stop <= after.write_stop <= after.all_stops)
+        m.leave()
+        self.assertEqual((m.figures().own_threads, m[1]), (1, 1))
+        m.clear()
+        m.clear()
+        self.assertEqual((len(m), list(m), m.snapshot(), m.figures().slots), (0, [], {}, 2048))
+
+    def test_nothing_is_left(self):
+        def work():
+            m = Map(zip(range(2000), range(2000)))
+            m.add_many(range(2000))
+            for _ in range(30):
+                for call in (m.get, m.remove, m.__getitem__):
+                    self.assertRaises(TypeError, call, "a")
+                m.pop(-0, None), m.compute(1, lambda n: 5), m.copy(), next(iter(m.items())), m == {}, m.get_many([1])
+            pickle.loads(pickle.dumps(m))
+
+        def used():
+            gc.collect()
+            return resource.getrusage(resource.RUSAGE_SELF).ru_maxrss
+
+        key, number = 10**18, 10**17
+        m = Map({key: number})
+        counts = sys.getrefcount(key), sys.getrefcount(number), sys.getrefcount(None)
+        for _ in range(1000):
+            m[key] = number
+            m.get(key, number), m.add(key, 1), m.setdefault(key, number), m.pop(key, number), m.pop(key, number), m.put(key, number)
+            key in m, m.replace_if(key, 1, number), m.compare_exchange(key, None, None), m.get_many([key]), list(m.items())
+        self.assertEqual((sys.getrefcount(key), sys.getrefcount(number)), counts[:2])
+        if sys.version_info < (3, 12):  # later on None has no count
+            self.assertTrue(abs(sys.getrefcount(None) - counts[2]) < 100)
+        for _ in range(20):
+            work()
+        before = used()
+        for _ in range(60):
+            work()
+        self.assertTrue(used() - before < 4096)
+
+    def test_cycle(self):
+        class Node(Map):
+            pass
+
+        m: Any = Node({1: 2})
+        m.walk = iter(m)
+        gone = weakref.ref(m)
+        del m
+        gc.collect()
+        self.assertIsNone(gone())
+
+    def test_many_maps(self):
+        maps = [Map({number: 1}) for number in range(100)]
+        run_all(8, lambda _: [m.add(number) for number, m in enumerate(maps)])
+        self.assertEqual([m[number] for number, m in enumerate(maps)], [9] * 100)
 
 
-def shapes():
-    for most, exponents in [(0, [2, 5]), (21, [2, 5]), (22, [3, 6]), (349525, [16, 19])]:
-        assert exponents_for_keys(most) == exponents
-        assert plan_for_keys(most, 17) == {"exponents": exponents, "reprobes": 18, "chunk": 64}
-    for most, exponents in [
-        (349526, [4, 12, 20]),
-        (699051, [4, 12, 20]),
-        (699052, [5, 13, 21]),
-        (1000000, [5, 13, 21]),
-        (44739243, [10, 18, 26]),
-        (44739244, [11, 19, 27]),
-        (MOST_KEYS, [4, 12, 20, 28]),
-    ]:
-        assert exponents_for_keys(most) == exponents
-        assert plan_for_keys(most, 17) == {"exponents": exponents, "stripes": 16, "reprobes": 18, "chunk": 256}
-    for live, ever, exponents in [
-        (0, 0, [9]),
-        (1, 341, [9]),
-        (1, 342, [9] * 2),
-        (256, 2901, [9] * 16),
-        (256, 2902, [10] * 6),
-        (257, 682, [10]),
-        (10000, 1000000, [17] * 13),
-        (2**25, 380283563, [26] * 16),
-        (0, 715827883, [26] * 16),
-    ]:
-        assert exponents_for_churn(live, ever) == exponents
+class Batches(unittest.TestCase):
+    """add_many, put_many and get_many."""
 
+    def test_kinds(self):
+        for keys in (
+            [1, 2, 2],
+            (1, 2, 2),
+            iter([1, 2, 2]),
+            bytes([1, 2, 2]),
+            bytearray([1, 2, 2]),
+            *(array(code, [1, 2, 2]) for code in "bBhHiIlLqQ"),
+            memoryview(array("Q", [1, 0, 2, 0, 2]))[::2],
+        ):
+            m = Map()
+            m.add_many(keys)
+            self.assertEqual(m, {1: 1, 2: 2})
+        m = Map()
+        m.add_many([1, 2, 2], [10, 20, 30])
+        m.add_many([], [])
+        m.put_many(array("Q", [3, 4]), 5)
+        m.put_many(range(5, 7), array("i", [6, 7]))
+        self.assertEqual(m, {1: 10, 2: 50, 3: 5, 4: 5, 5: 6, 6: 7})
+        found = m.get_many([1, 9, 2])
+        self.assertEqual((found, found.typecode, m.get_many([9], 2**64 - 1)[0], m.get_many(b"")), (array("Q", [10, 0, 50]), "Q", 2**64 - 1, array("Q")))
+        self.assertRaises(OverflowError, m.get_many, [1], -1)
 
-def churns():
-    shared = Map.for_churn(100, 1024, seats=17)
-    seat = Seat.for_churn(100, 1024)
-    for opened in (seat, shared):
-        for key in range(1024):
-            if key >= 100:
-                assert opened.remove(key - 100) == key - 100
-            assert opened.put(key, key) is None
-        assert opened.generation() > 0
-    seat.close()
-    shared.close()
-    assert refused(Seat.for_churn, 10, 100, 0) == refused(Seat.for_churn, 10, 100, 257) == Code.E_SEATS
-    assert refused(Map.for_churn, 10, 100, 0) == refused(Map.for_churn, 10, 100, 257) == Code.E_SEATS
-
-
-def many_seats():
-    first = Seat.for_keys(5000, seats=256)
-    seats = [first.split() for _ in range(255)]
-    for number, seat in enumerate(seats):
-        seat.put(number, number)
-    for seat in seats:
-        first.join(seat)
-    assert first.size_estimate() == 255
-    assert len(first.close()) == 255
-
-
-def walks():
-    for mixed in (True, False):
-        for opened in (Seat.open(exponents_for_keys(10), mixed=mixed), Map(exponents_for_keys(10), mixed=mixed)):
-            for key in range(3):
-                opened.put(key, key + 5)
-            older = opened.walk()
-            first = next(older)
-            assert sorted(opened.items()) == [(0, 5), (1, 6), (2, 7)]
-            assert sorted(opened) == sorted(opened.keys()) == [0, 1, 2] and sorted(opened.values()) == [5, 6, 7]
-            assert sorted([first, *older]) == [(0, 5), (1, 6), (2, 7)]
-            assert list(older) == [] == list(older)
-    nested()
-    seat = Seat.for_keys(10)
-    seat.update({1: 2, 3: 4})
-    walk = seat.walk()
-    next(walk)
-    seat.free()
-    assert told(next, walk) == "the seat is empty"
-
-
-def nested():
-    """Walks within walks of one map: each is at a place of its own, also where the map grows in between."""
-    for mixed in (True, False):
-        both: list[Seat | Map] = [Seat.open([4, 8], mixed=mixed), Map([4, 8], seats=1, mixed=mixed)]
-        for opened in both:
-            opened.update((key, key) for key in range(8))
-            trips = [(a, b, c) for a in opened for b in opened for c in opened.values()]
-            assert len(trips) == len(set(trips)) == 8**3
-            first = opened.walk()
-            shown = [next(first) for _ in range(3)]
-            second = opened.walk()
-            others = [next(second) for _ in range(5)]
-            assert others[:3] == shown
-            opened.update((key, key) for key in range(100, 150))
-            assert opened.generation() == 1
-            for key in list(opened):
-                if key >= 100:
-                    del opened[key]
-            assert sorted(pair for pair in [*others, *second] if pair[0] < 100) == [(key, key) for key in range(8)]
-            assert sorted([*shown, *first]) == [(key, key) for key in range(8)]
-            assert next(second, None) is next(first, None) is None
-            assert opened.close().entries() == [(key, key) for key in range(8)]
-
-
-def lists():
-    """The entries of a seat that has all seats, while its map goes on."""
-    for mixed in (True, False):
-        mine = Seat.for_keys(1000, seats=3, mixed=mixed)
-        assert mine.entries() == []
-        yours = mine.split()
-        mine.update((key, key + 1) for key in range(300))
-        yours.update((key, key + 1) for key in range(300, 1000))
-        for key in range(1, 1000, 2):
-            assert yours.pop(key) == key + 1
-        assert refused(mine.entries) == refused(yours.entries) == Code.E_NOT_ALL_SEATS
-        mine.join(yours)
-        assert told(yours.entries) == "the seat is empty"
-        assert sorted(mine.entries()) == [(key, key + 1) for key in range(0, 1000, 2)]
-        assert mine.settle() == 500 and mine.pop(0) == 1 and mine.put(KEY_MAX, VALUE_MAX) is None
-        assert sorted(mine.entries())[-1] == (KEY_MAX, VALUE_MAX) and len(mine.entries()) == 500
-        # more keys than were guessed
-        setattr(mine, "size_estimate", lambda: 3)
-        assert len(mine.entries()) == 500
-    with Map.for_keys(10, seats=2) as counts:
-        counts[1] = 2
-        with counts.seat() as seat:
-            assert refused(seat.entries) == Code.E_NOT_ALL_SEATS
-            counts.give_back()
-            with counts.seat() as other:
-                seat.join(other)
-            assert seat.entries() == [(1, 2)]
-
-
-def renews():
-    """A map is made anew by a seat that has all seats: of the same shape, a greater one, with more seats; or it is refused."""
-    for mixed in (True, False):
-        seat = Seat.open([2, 5], seats=2, mixed=mixed)
-        key = 0
-        while refused(seat.put, key, key + 1) is None:
-            key += 1
-        kept = [(one, one + 1) for one in range(key - 12, key)]
-        for early in range(key - 12):
-            del seat[early]
-        assert refused(seat.put, 1000, 0) == Code.E_FULL and seat.occupancy().should_renew()
-        walk = seat.walk()
-        shown = [next(walk) for _ in range(5)]
-        assert refused(seat.renew, [2, 3]) == Code.E_FULL and refused(seat.renew, [5, 4]) == Code.E_FALLING
-        assert refused(seat.renew, [5], 257) == Code.E_SEATS and told(seat.renew, [-1]) == "-1 isn't from 0 to 2^32 - 1"
-        other = seat.split()
-        assert refused(seat.renew, [2, 5]) == refused(other.renew, [2, 5]) == Code.E_NOT_ALL_SEATS
-        seat.join(other)
-        assert told(other.renew, [2, 5]) == "the seat is empty"
-        # refused, it is of the old map still, and its walk goes on
-        assert sorted([*shown, *walk]) == sorted(seat.entries()) == kept
-        assert seat.generation() == 1 and refused(seat.put, 1000, 0) == Code.E_FULL and seat.count == 2
-        walk = seat.walk()
-        next(walk)
-        seat.renew([2, 5])
-        assert told(next, walk) == "the seat has renewed its map" and told(next, walk, None) is None
-        assert seat.put(1000, 0) is None and seat.remove(1000) == 0 and seat.count == 2
-        assert sorted(seat.items()) == sorted(seat.entries()) == kept
-        seat.renew(exponents_for_keys(5000), seats=3, stripes=2, reprobes=10, chunk=4)
-        others = [seat.split(), seat.split()]
-        assert refused(seat.split) == Code.E_NO_SEAT and seat.count == 1
-        run_all([threading.Thread(target=work, args=(one, number)) for number, one in enumerate(others)])
-        assert all(one[key - 1] >= key for one in others)
-        for part in others:
-            seat.join(part)
-        assert seat.settle() == len(seat.close()) == 1000
-    # the one seat of a map without seats in sight
-    counts = Map.for_keys(10, seats=1)
-    counts.update((key, key) for key in range(10))
-    counts.give_back()
-    with counts.seat() as seat:
-        seat.renew(exponents_for_keys(100), seats=3)
-    assert counts.seats == 3 and repr(counts) == "<samvolip.Map, 0 of 3 seats out, mixed>"
-    holders = [Holder(counts) for _ in range(3)]
-    assert [holder.came for holder in holders] == [None] * 3 and refused(counts.get, 1) == Code.E_NO_SEAT
-    for holder in holders:
-        holder.end()
-    assert counts.close().entries() == [(1, 4) if key == 1 else (key, key) for key in [0, *range(1, 10)]]
-
-
-def like_a_dict():
-    for one in (Seat.for_keys(10), Map.for_keys(10)):
-        one[1] = 2
-        assert one[1] == 2 and 1 in one and 2 not in one and len(one) == 1
-        assert one.get(2) is None and one.get(2, 7) == 7 and one.get(1, 7) == 2
-        one.update({3: 4})
-        one.update([(5, 6)])
-        one.update(one)
-        assert sorted(one.items()) == [(1, 2), (3, 4), (5, 6)] == sorted(dict(one).items())
-        assert one.setdefault(1, 9) == 2 and one.setdefault(9, 10) == 10 and one[9] == 10
-        assert one.pop(9) == 10 and one.pop(9, None) is None and told(one.pop, 9) == told(one.__getitem__, 9) == "9"
-        del one[1]
-        assert 1 not in one and told(one.__delitem__, 1) == "1"
-        assert told(one.pop, 1, 2, 3) == "pop takes one default at most"
-        assert one.compute(3, lambda number: (number or 0) + 1) == 5 and one.compute(3, lambda number: None) is None and 3 not in one
-        assert one.compute(3, lambda number: 1 if number is None else 0) == 1 and one.compute(4, lambda number: None) is None
-    with Seat.for_keys(10) as seat:
-        assert re.fullmatch(r"<samvolip.Seat of map \d+, about 0 keys, mixed>", repr(seat))
-    assert repr(seat) == "<samvolip.Seat, empty>" and told(seat.get, 1) == "the seat is empty"
-    ended = Seat.for_keys(10, mixed=False).close()
-    assert repr(ended) == "<samvolip.Ended, 0 keys>" and 1 not in ended and told(ended.__getitem__, 1) == "1"
-    with ended:
-        assert list(ended) == ended.items() == []
-    assert told(len, ended) == "the ended map was freed"
-
-
-def contended():
-    """Threads compute at one key: no change is lost."""
-    counts = Map.for_keys(10)
-
-    def work():
-        for _ in range(2000):
-            counts.compute(1, lambda number: (number or 0) + 1)
-
-    run_all([threading.Thread(target=work) for _ in range(4)])
-    assert counts[1] == 8000
-
-
-def mixing():
-    # what nb_core's test expects
-    for number, mixed in [
-        (0, 0),
-        (1, 17732798614194424744),
-        (2, 17013110623237245971),
-        (131072, 17231277123929834607),
-        (281474976710656, 3229997669068692271),
-        (2**64 - 1, 17684271367961033934),
-        (1504646209777642070, 2**64 - 1),
-        (5863696168926310861, 2**64 - 2),
-    ]:
-        assert mix(number) == mixed and unmix(mixed) == number
-    assert told(mix, 2**64) == told(unmix, 2**64) == "18446744073709551616 isn't from 0 to 2^64 - 1"
-    numbers = [0, 1, 2, 131072, 1504646209777642070, 5863696168926310861, KEY_MAX]
-    for mixed in (True, False):
-        both: list[Seat | Map] = [Seat.for_keys(100, mixed=mixed), Map.for_keys(100, mixed=mixed)]
-        for one in both:
-            for number in numbers:
-                assert one.put(number, 5) is None and one.get(number) == 5
-            assert sorted(one) == numbers
-            assert refused(one.get, KEY_MAX + 1) == refused(one.put, KEY_MAX + 1, 0) == Code.E_KEY_RANGE
-            ended = one.close()
-            assert ended.entries() == [(number, 5) for number in numbers]
-            assert ended.get(131072) == ended[131072] == 5 and ended.get(131073) is None and list(ended) == numbers
-            assert refused(ended.get, KEY_MAX + 1) == Code.E_KEY_RANGE
-    # as nb_core's test: keys that share their low bits have homes of their own
-    for distance in (1, 131072, 16777216, 281474976710656):
-        assert len({mix(i * distance % 2**64) % 65536 for i in range(20000)}) > 14000
-    for mixed in (True, False):
-        one = Map([14], mixed=mixed)
-        one.update((i << 16, i) for i in range(5000))
-        assert sorted(one.items()) == [(i << 16, i) for i in range(5000)]
-
-
-def without_seats():
-    """Eight threads, and a map that grows: each number is exact, and the seats are there again at the end."""
-    counts = Map([4, 6, 8, 10, 12], seats=8, stripes=4)
-    run_all([threading.Thread(target=work, args=(counts, number)) for number in range(8)])
-    assert counts.generation() == 4 and len(counts) == 1000
-    assert sorted(counts) == list(range(1000)) and sum(counts.values()) == 40000
-    run_all([threading.Thread(target=work, args=(counts, number)) for number in range(8)][:7])
-    ended = counts.close()
-    assert len(ended) == 1000 and sum(number for _, number in ended.entries()) == 75000
-    assert repr(counts) == "<samvolip.Map, closed>"
-    assert told(counts.get, 1) == told(counts.close) == told(counts.seat) == "the map is closed"
-
-
-class Holder(threading.Thread):
-    """A thread that calls once, and goes on when it is told."""
-
-    def __init__(self, counts):
-        super().__init__()
-        self.counts = counts
-        self.came = None
-        self.called, self.may_end = threading.Event(), threading.Event()
-        self.start()
-        self.called.wait()
-
-    def run(self):
+    def test_numpy(self):
         try:
-            self.counts.add(1, 1)
-        except Refused as refusal:
-            self.came = refusal
-        self.called.set()
-        self.may_end.wait()
+            import numpy  # type: ignore[import]
+        except ImportError:
+            self.skipTest("no numpy here")
+        m = Map()
+        m.add_many(numpy.arange(1000, dtype=numpy.uint64))
+        m.add_many(numpy.arange(1000), numpy.int64(3))
+        m.put_many(numpy.arange(2000)[::2], numpy.arange(1000, dtype=numpy.uint32))
+        self.assertEqual((len(m), m[1], m[numpy.int64(998)], numpy.frombuffer(m.get_many([1, 4]), dtype=numpy.uint64).tolist()), (1500, 4, 499, [4, 2]))
+        self.assertRaises(OverflowError, m.add_many, numpy.arange(-1, 3))
+        self.assertRaises(TypeError, m.add_many, numpy.array([1.5]))
 
-    def end(self):
-        self.may_end.set()
-        self.join()
+    def test_threads(self):
+        """The sums are exact while tables grow, and the interpreter goes on meanwhile."""
+        m, keys = Map(), array("Q", range(50_000))
+        turns, goes_on = [0], [True]
 
+        def count():
+            while goes_on[0]:
+                turns[0] += 1
 
-def seats_run_out():
-    counts = Map.for_keys(10, seats=3)
-    assert counts.seats == 3
-    holders = [Holder(counts) for _ in range(3)]
-    assert [holder.came for holder in holders] == [None] * 3
-    late = Holder(counts)
-    assert isinstance(late.came, NoSeat) and str(late.came) == "all 3 seats of the map are out (E_NO_SEAT)"
-    assert late.came.code == Code.E_NO_SEAT and refused(counts.seat) == refused(counts.get, 1) == Code.E_NO_SEAT
-    late.end()
-    assert repr(counts) == "<samvolip.Map, 3 of 3 seats out, mixed>"
-    assert refused(counts.close) == Code.E_NOT_ALL_SEATS
-    holders.pop().end()
-    assert counts[1] == 3
-    counts.give_back()
-    explicit = counts.seat()
-    try:
-        counts.close()
-    except NotAllSeats as refusal:
-        assert str(refusal) == "other threads or explicit seats have 3 of the 3 seats (E_NOT_ALL_SEATS)"
-    assert explicit.add(1, 1) == 3 and explicit.get(1) == 4
-    explicit.free()
-    assert told(explicit.get, 1) == "the seat is empty"
-    with counts.seat() as again:
-        assert again.get(1) == 4
-        assert refused(counts.seat) == Code.E_NO_SEAT
-    for holder in holders:
-        holder.end()
-    one, two = counts.seat(), counts.seat()
-    one.join(two)
-    three = one.split()
-    del one, two, three
-    gc.collect()
-    assert counts[1] == 4 and repr(counts) == "<samvolip.Map, 1 of 3 seats out, mixed>"
-    assert counts.close().entries() == [(1, 4)]
+        counting = threading.Thread(target=count)
+        counting.start()
+        run_all(4, lambda _: m.add_many(keys * 10))
+        goes_on[0] = False
+        counting.join()
+        self.assertEqual((len(m), set(m.values())), (50_000, {40}))
+        self.assertTrue(turns[0] > 1000)
 
+    def test_beside_a_dict(self):
+        """Four threads' batches are several times as fast as four threads with a dict behind a lock."""
+        m, numbers, lock, keys = Map(), dict.fromkeys(range(1000), 0), threading.Lock(), array("Q", range(1000)) * 50
 
-def many_short_threads():
-    """Far more threads than seats, one after another and a few at a time."""
-    counts = Map.for_keys(10, seats=4)
-    for _ in range(100):
-        run_all([threading.Thread(target=counts.add, args=(1, 1)) for _ in range(4)])
-    assert counts.close()[1] == 400
+        def batch(_: int) -> None:
+            m.add_many(keys)
 
-
-def walks_stay():
-    """A walk stays on its thread and with its seat."""
-    counts = Map.for_keys(10)
-    counts.update({1: 2, 3: 4})
-    walk, came = counts.walk(), []
-    thread = threading.Thread(target=lambda: came.append(told(next, walk)))
-    run_all([thread])
-    assert came == ["a walk stays on its thread, and ends where the thread gives its seat back"]
-    walk = counts.walk()
-    next(walk)
-    counts.give_back()
-    assert told(next, walk) == came[0]
-    kept = []
-    thread = threading.Thread(target=lambda: kept.append(counts.walk()))
-    run_all([thread])
-    assert told(next, kept[0]) == came[0]
-    assert counts.close().entries() == [(1, 2), (3, 4)]
-
-
-def empty():
-    """A map without keys is false, as an empty dict, and its seats count all the same."""
-    for keys in ((), (1, 2)):
-        with Map.for_keys(10, seats=3) as counts:
-            assert repr(counts) == "<samvolip.Map, 0 of 3 seats out, mixed>"
-            counts.update((key, 0) for key in keys)
+        def one_by_one(_: int) -> None:
             for key in keys:
-                del counts[key]
-            assert not counts and len(counts) == 0
-            with counts.seat() as seat:
-                assert not seat and repr(counts) == "<samvolip.Map, 2 of 3 seats out, mixed>"
-            counts.give_back()
-            assert repr(counts) == "<samvolip.Map, 0 of 3 seats out, mixed>"
-        assert repr(counts) == "<samvolip.Map, closed>"
-    assert len(Map.for_keys(10).close()) == 0
+                with lock:
+                    numbers[key] += 1
+
+        def best_of_three(work: Callable[[int], None]) -> float:
+            times = []
+            for _ in range(3):
+                begun = time.perf_counter()
+                run_all(4, work)
+                times.append(time.perf_counter() - begun)
+            return min(times)
+
+        self.assertTrue(best_of_three(one_by_one) > 4 * best_of_three(batch))
+        self.assertEqual(m, numbers)
+
+    def test_interrupted(self):
+        """A signal's handler raises in the middle of a batch."""
+
+        def handler(*_: object) -> None:
+            raise ZeroDivisionError
+
+        m, keys = Map(), array("Q", range(2000)) * 1000
+        signal.signal(signal.SIGALRM, handler)
+        try:
+            with self.assertRaises(ZeroDivisionError):
+                signal.setitimer(signal.ITIMER_REAL, 0.005)
+                for _ in range(1000):
+                    m.add_many(keys)
+        finally:
+            signal.setitimer(signal.ITIMER_REAL, 0)
+            signal.signal(signal.SIGALRM, signal.SIG_DFL)
+        self.assertTrue(sum(m.values()) < len(keys) * 1000)
 
 
-def goes_on():
-    """A map was given up: another thread that has a seat goes on, and so does an explicit seat."""
-    counts = Map.for_keys(10)
-    explicit = counts.seat()
-    called, freed, found = threading.Event(), threading.Event(), []
+class Threads(unittest.TestCase):
+    """Many threads, and renewals beside them."""
 
-    def work():
-        counts.add(1, 1)
-        called.set()
-        freed.wait()
-        found.append(counts.add(1, 1))
+    def test_three_hundred(self):
+        m, begin = Map(threads=16), threading.Barrier(300)
 
-    thread = threading.Thread(target=work)
-    thread.start()
-    called.wait()
-    counts.free()
-    freed.set()
-    thread.join()
-    assert found == [1] and explicit.get(1) == 2
-    assert told(counts.get, 1) == told(counts.seat) == "the map is closed"
+        def work(number: int) -> None:
+            begin.wait()
+            for i in range(200):
+                m.add((i * 7 + number) % 100)
+                self.assertTrue(m[(i * 7 + number) % 100] >= 1)
 
+        run_all(300, work)
+        self.assertEqual((len(m), sum(m.values())), (100, 60_000))
 
-def ends():
-    """A map is closed by `with`, or given up where an exception is under way or others have seats."""
-    with Map.for_keys(10) as counts:
-        counts[1] = 2
-    assert told(counts.get, 1) == "the map is closed"
-    with Map.for_keys(10) as counts:
-        counts[1] = 2
-        ended = counts.close()
-    assert ended[1] == 2
-    counts = Map.for_keys(10)
-    holder = Holder(counts)
-    try:
-        with counts:
-            counts[1] = 2
-    except NotAllSeats as refusal:
-        assert str(refusal) == "other threads or explicit seats have 1 of the 64 seats (E_NOT_ALL_SEATS)"
-    assert counts[1] == 2
-    try:
-        with counts:
-            raise KeyError(5)
-    except KeyError:
-        pass
-    assert told(counts.get, 1) == "the map is closed"
-    holder.end()
-    goes_on()
-    counts = Map([2])
-    counts.update((key, 0) for key in range(4))
-    try:
-        counts[4] = 0
-    except Full as refusal:
-        assert str(refusal) == "the map is full (E_FULL)" and refusal.code == Code.E_FULL
-    assert sorted(counts) == [0, 1, 2, 3]
+    def test_come_and_go(self):
+        m = Map(threads=4)
+        for _ in range(100):
+            run_all(6, lambda _: m.add(1))
+        self.assertEqual(m[1], 600)
 
+    def test_renewals(self):
+        m, goes_on = Map(), [True]
 
-def interrupted():
-    """A signal comes in the middle of calls, and its handler calls the same map and the same seat: each has its own answer, and each
-    walk shows all keys.
-    """
-    for one in (Map.for_keys(10), Seat.for_keys(10)):
-        came = []
-        signal.signal(signal.SIGALRM, lambda *_: came.append(one.add(2, 1) or 0))
+        def renew():
+            room = 0
+            while goes_on[0]:
+                room = (room + 7919) % 50_000
+                m.renew(room)
+
+        renewing = threading.Thread(target=renew)
+        renewing.start()
+        rounds = [0] * 6
+
+        def work(number: int) -> None:
+            mine = 1000 + number
+            while m.figures().renewals < 50 or rounds[number] < 5:
+                for i in range(500):
+                    m.add(i)
+                    self.assertEqual(m.put(mine, i), None if rounds[number] + i == 0 else (i - 1) % 500)
+                m.add_many(range(500))
+                rounds[number] += 1
+                self.assertEqual(m[mine], 499)
+                self.assertTrue(mine in set(m) and mine in m.snapshot() and len(m) >= 501)
+
+        try:
+            run_all(6, work)
+        finally:
+            goes_on[0] = False
+            renewing.join()
+        self.assertEqual((len(m), {m[key] for key in range(500)}), (506, {2 * sum(rounds)}))
+
+    def test_contended(self):
+        m = Map()
+        interval = sys.getswitchinterval()
+        sys.setswitchinterval(1e-5)
+        try:
+            run_all(4, lambda _: [m.compute(1, lambda n: (n or 0) + 1) for _ in range(2000)])
+            run_all(4, lambda number: [m.fetch_max(2, i * 4 + number) for i in range(2000)])
+        finally:
+            sys.setswitchinterval(interval)
+        self.assertEqual((m[1], m[2]), (8000, 7999))
+
+    def test_popitem(self):
+        """Each key is taken once."""
+        m, taken = Map(zip(range(20_000), range(20_000))), []
+
+        def work(_: int) -> None:
+            try:
+                while True:
+                    taken.append(m.popitem())
+            except KeyError:
+                pass
+
+        run_all(8, work)
+        self.assertEqual((len(taken), len(dict(taken)), len(m)), (20_000, 20_000, 0))
+
+    def test_signals(self):
+        """A handler that comes between two calls calls the same map."""
+        m, came = Map(), []
+        signal.signal(signal.SIGALRM, lambda *_: came.append(m.add(2) or 0))
         signal.setitimer(signal.ITIMER_REAL, 0.0002, 0.0002)
-        for i in range(20000):
-            assert (one.add(1, 1) or 0) == i and one.get(1) == i + 1
+        for i in range(20_000):
+            self.assertEqual((m.add(1) or 0, m[1]), (i, i + 1))
         signal.setitimer(signal.ITIMER_REAL, 0)
         signal.signal(signal.SIGALRM, signal.SIG_DFL)
-        assert sorted(came) == list(range(len(came))) and one.get(2, 0) == len(came) > 0  # handlers may interrupt each other
-    for one in (Map.for_keys(1000), Seat.for_keys(1000)):
-        one.update((key, 1) for key in range(1000))
-        walked: list[bool] = []
-
-        def walks_too(*_):
-            walked.append(sorted(one) == list(range(1000)))
-            signal.setitimer(signal.ITIMER_REAL, 0.001)
-
-        signal.signal(signal.SIGALRM, walks_too)
-        signal.setitimer(signal.ITIMER_REAL, 0.001)
-        while len(walked) < 50:
-            assert sorted(one) == list(range(1000))
-        signal.signal(signal.SIGALRM, signal.SIG_IGN)
-        signal.setitimer(signal.ITIMER_REAL, 0)
-        signal.signal(signal.SIGALRM, signal.SIG_DFL)
-        assert all(walked)
+        self.assertEqual((sorted(came), m.get(2, 0)), (list(range(len(came))), len(came)))
 
 
-def page():
+def child(m: Map, number: int) -> dict[int, int]:
+    """What another process makes of a map that it was sent, or has of its own since a fork."""
+    m.add(number)
+    run_all(3, lambda _: m.add(number))
+    m.renew()
+    return m.snapshot()
+
+
+class Forks(unittest.TestCase):
+    """The child has a map of its own, as it was at the fork."""
+
+    def test_fork_under_load(self):
+        m, goes_on = Map(zip(range(1000), range(1000))), [True]
+
+        def work(number: int) -> None:
+            while goes_on[0]:
+                m.add_many(range(2000, 2300))
+                m.add(10**6 + number)
+                len(m)
+
+        threads = [threading.Thread(target=work, args=(number,)) for number in range(4)]
+        for thread in threads:
+            thread.start()
+        statuses = []
+        for _ in range(10):
+            pid = os.fork()
+            if pid == 0:
+                signal.alarm(60)
+                count = len(m)
+                well = all(m[key] == key for key in range(1000)) and child(m, 5)[5] == 9 and len(m) == len(set(m)) == count
+                m.update({key: 1 for key in range(10_000)})
+                os._exit(0 if well and len(m) >= 10_000 else 1)
+            statuses.append(os.waitpid(pid, 0)[1])
+        goes_on[0] = False
+        for thread in threads:
+            thread.join()
+        self.assertEqual(statuses, [0] * 10)
+        self.assertEqual((m[5], len(m)), (5, 1304))
+
+    def test_multiprocessing(self):
+        m = Map({1: 2})
+        for method in ("fork", "spawn"):
+            with multiprocessing.get_context(method).Pool(2) as pool:
+                self.assertEqual(pool.starmap(child, [(m, 1), (m, 7)]), [{1: 6}, {1: 2, 7: 4}])
+        self.assertEqual(m, {1: 2})
+
+
+class Page(unittest.TestCase):
     """The programs of the page print what it says."""
-    with open(PAGE) as file:
-        blocks = re.findall(r"(?:^    .*\n|^\n(?=    ))+", file.read(), re.M)
-    blocks = [re.sub(r"^    ", "", block, flags=re.M).strip("\n") for block in blocks]
-    programs = [number for number, block in enumerate(blocks) if re.match(r"# \w+\.py: ", block)]
-    assert len(programs) == 2
-    with tempfile.TemporaryDirectory() as folder:
-        for number in programs:
-            path = f"{folder}/program.py"
-            with open(path, "w") as file:
-                file.write(blocks[number])
-            paths = {**os.environ, "PYTHONPATH": os.path.dirname(os.path.dirname(samvolip.__file__))}
-            ran = subprocess.run([sys.executable, path], capture_output=True, text=True, env=paths, check=True)
-            assert ran.stdout.strip("\n") == blocks[number + 1], ran.stdout
+
+    def test_page(self):
+        with open(PAGE) as file:
+            blocks = re.findall(r"(?:^    .*\n|^\n(?=    ))+", file.read(), re.M)
+        blocks = [re.sub(r"^    ", "", block, flags=re.M).strip("\n") for block in blocks]
+        programs = [number for number, block in enumerate(blocks) if re.match(r"# \w+\.py: ", block)]
+        self.assertEqual(len(programs), 2)
+        with tempfile.TemporaryDirectory() as folder:
+            for number in programs:
+                path = f"{folder}/program.py"
+                with open(path, "w") as file:
+                    file.write(blocks[number])
+                paths = {**os.environ, "PYTHONPATH": os.path.dirname(os.path.dirname(samvolip.__file__))}
+                ran = subprocess.run([sys.executable, path], capture_output=True, text=True, env=paths)
+                self.assertEqual((ran.stderr, ran.stdout.strip("\n")), ("", blocks[number + 1]))
 
 
-threads()
-one_seat()
-calls()
-shapes()
-churns()
-broken_shapes()
-grows()
-fullness()
-joins()
-many_seats()
-walks()
-lists()
-renews()
-like_a_dict()
-contended()
-mixing()
-without_seats()
-seats_run_out()
-many_short_threads()
-walks_stay()
-empty()
-ends()
-interrupted()
-page()
-print("python: well")
+if __name__ == "__main__":
+    unittest.main()
