@@ -29,11 +29,6 @@ put-rises p a b less =
     more : (s g x y : ℕ) → x ≤ y → 8 * (s + x + g) ≤ 8 * (s + y + g)
     more s g x y below = omega (arith, below)
 
--- more lost exchanges have a greater bound
-pub lost-rises : (p : Plan) (a b : ℕ) → a ≤ b → lost_steps p a ≤ lost_steps p b
-lost-rises p a b less =
-    mul-le-mul_right (size_of p (generations_of p - 1) + 8) (omega (arith, less))
-
 -- a lost exchange is one step
 pub lost-few : (p : Plan) (lost most : ℕ) → lost ≤ most → lost ≤ lost_steps p most
 lost-few p lost most less = fits (size_of p (generations_of p - 1)) less

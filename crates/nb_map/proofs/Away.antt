@@ -5,12 +5,12 @@ use Rattle.nb_core.specs.Meaning.{net_of_call}
 use Rattle.nb_core.specs.declared.calls.Call.{Call}
 use Rattle.nb_core.specs.declared.calls.Reply.{Reply}
 use Rattle.nb_core.specs.declared.events.Event.{Event}
-use Rattle.nb_table.specs.Chains.{ChainOf, Extended, Grown, IsOwn, SeenBy}
-use Rattle.nb_map.proofs.AtHome.{last-before, lost-rises, put-rises, whole-bound}
+use Rattle.nb_table.specs.Chains.{ChainOf, Grown, SeenBy}
+use Rattle.nb_map.proofs.AtHome.{last-before, put-rises, whole-bound}
 use Rattle.nb_map.proofs.Counted.{counted-mine, uncounted-mine}
 use Rattle.nb_map.proofs.Home.{home-before}
 use Rattle.nb_map.proofs.Logged.{logged, logged-then, worked-uncounted}
-use Rattle.nb_map.proofs.Made.{made-own, made-quiet, made-stays, made-within}
+use Rattle.nb_map.proofs.Made.{made-own, made-stays, made-within}
 use Rattle.nb_map.proofs.Searched.{made-then}
 use Rattle.nb_map.proofs.Spent.{just-longer, passed-sum}
 use Rattle.nb_map.proofs.Straight.{at-known}
@@ -20,16 +20,11 @@ use Rattle.nb_map.specs.Maps.{IsMine, MapOf, SeatOf, accounted}
 use Rattle.nb_map.specs.Progress.{IsAloneAtHome, IsShortAtHome, Limit, Tries, Unlimited, passed_since, within}
 use Rattle.nb_map.specs.Promises.{Found, HasAnswered, HasWritten, Matched, Outcome, Refused, Replied}
 use Rattle.nb_map.specs.Refusals.{AreAllTries, HasRefused, IsJust}
-use Rattle.nb_map.specs.Steps.{climb_steps, lost_steps, put_steps}
+use Rattle.nb_map.specs.Steps.{put_steps}
 use Rattle.nb_map.specs.declared.faults.PutFault.{PutFault}
 use Rattle.nb_map.specs.inside.Waiting.{HasClimbed, HasGoneOn, HasLookedInVain, HasYetToWrite, IsLeft, IsStopped, general_steps}
 
 -- ---- what is left of the tries
-
--- with more exchanges that others won, no fewer may be lost
-within-rises : (limit : Limit) (a b : ℕ) → a ≤ b → within limit a ≤ within limit b
-within-rises Unlimited a b less = less
-within-rises (Tries tries) a b less = omega (arith, less)
 
 -- both ways together lose no more exchanges than the write may
 lost-within :
@@ -101,25 +96,6 @@ module _ (chain : ChainOf) {call : Call} {before then : SeenBy} {lost : ℕ}
         five_steps = λ alone last.
             absurd (away.away (here alone) (inr (last-before before.top mine made.grown last)));
       }
-
--- the general way: the load of the top word, and the way up
-pub climbed :
-    (chain : ChainOf) {call : Call} {start first after : SeenBy} {calls : List (Call × Reply)}
-    (limit : Limit) → IsOwn chain start → Extended chain.shape start first [] 1
-    → HasMade chain.shape call first after calls
-    (climb_steps chain.shape + lost_steps chain.shape (within limit (passed_since call first after)))
-    → HasMade chain.shape call start after calls
-    (general_steps chain.shape limit (passed_since call start after))
-climbed chain {call} {start} {first} {after} limit own load made =
-    let quiet = made-quiet chain.shape call load in
-    made-within _ _
-    (omega (
-      arith,
-      lost-rises chain.shape (within limit (passed_since call first after))
-          (within limit (passed_since call start after))
-          (within-rises limit _ _ (omega (arith, passed-sum call quiet.grown made.grown))),
-    ))
-    (made-then own quiet made)
 
 -- ---- on the map
 

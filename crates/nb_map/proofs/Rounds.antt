@@ -12,9 +12,10 @@ use Rattle.nb_map.proofs.Made.{made-within}
 use Rattle.nb_map.proofs.Searched.{made-then}
 use Rattle.nb_map.proofs.Spent.{passed-sum}
 use Rattle.nb_map.specs.Calling.{HasMade}
-use Rattle.nb_map.specs.Progress.{passed_since}
+use Rattle.nb_map.specs.Progress.{Unlimited, passed_since}
 use Rattle.nb_map.specs.Steps.{climb_steps, get_steps, lost_steps, slots_below}
 use Rattle.nb_map.specs.inside.Climbing.{IsSpent}
+use Rattle.nb_map.specs.inside.Waiting.{general_steps}
 
 -- the slots below a table are those of the tables before it
 slots-before :
@@ -72,11 +73,11 @@ last-bound p passed passed' all climbed lost both fewer =
         → 8 * passed * (n + 8) + (climbed + lost) ≤ climbed + 8 * all * (n + 8)
     fits n passed passed' all climbed lost both fewer = omega (arith, both, fewer)
 
--- The seat has made some contended rounds, and then another one.
+-- The seat has loaded the top word and made some contended rounds, and then another one.
 module _ (chain : ChainOf) {call : Call} {start now after : SeenBy} {left : ℕ}
     {calls : List (Call × Reply)} (own : IsOwn chain start)
     (rounds : HasMade chain.shape call start now []
-    (lost_steps chain.shape (passed_since call start now)))
+    (1 + lost_steps chain.shape (passed_since call start now)))
     (round : HasMade chain.shape call now after calls
     (climb_steps chain.shape + (2 ^ 32 - 1 - left)))
     (spent : IsSpent call now after (2 ^ 32 - 1) left) where
@@ -84,20 +85,27 @@ module _ (chain : ChainOf) {call : Call} {start now after : SeenBy} {left : ℕ}
   pub rounds-more :
       2 ^ 32 - 1 ≤ passed_since call now after
       → HasMade chain.shape call start after calls
-      (lost_steps chain.shape (passed_since call start after))
+      (1 + lost_steps chain.shape (passed_since call start after))
   rounds-more contended =
       made-within _ _
-      (round-bound chain.shape own.plan (passed_since call start now) (passed_since call now after)
-      (passed_since call start after) (2 ^ 32 - 1 - left) contended
-      (omega (arith, passed-sum call rounds.grown round.grown)) (omega (arith, spent.lost)))
+      (omega (
+        arith,
+        round-bound chain.shape own.plan (passed_since call start now) (passed_since call now after)
+            (passed_since call start after) (2 ^ 32 - 1 - left) contended
+            (omega (arith, passed-sum call rounds.grown round.grown)) (omega (arith, spent.lost)),
+      ))
       (made-then own rounds round)
 
   -- or it was the last one
-  pub rounds-end : HasMade chain.shape call start after calls
-      (climb_steps chain.shape + lost_steps chain.shape (passed_since call start after))
+  pub rounds-end :
+      HasMade chain.shape call start after calls
+      (general_steps chain.shape Unlimited (passed_since call start after))
   rounds-end =
       made-within _ _
-      (last-bound chain.shape (passed_since call start now) (passed_since call now after)
-      (passed_since call start after) (climb_steps chain.shape) (2 ^ 32 - 1 - left)
-      (omega (arith, passed-sum call rounds.grown round.grown)) (omega (arith, spent.lost)))
+      (omega (
+        arith,
+        last-bound chain.shape (passed_since call start now) (passed_since call now after)
+            (passed_since call start after) (climb_steps chain.shape) (2 ^ 32 - 1 - left)
+            (omega (arith, passed-sum call rounds.grown round.grown)) (omega (arith, spent.lost)),
+      ))
       (made-then own rounds round)

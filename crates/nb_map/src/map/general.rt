@@ -10,7 +10,7 @@ ghost use Rattle.nb_map.specs.inside.Waiting.{CantOverflow, HasGoneOn, answer_of
 use crate::faults::AddFault;
 use crate::map::answers::Gone;
 use crate::map::{Map, Seat};
-use crate::steps::write::write_general;
+use crate::steps::write::write_rounds;
 use nb_core::{Change, Key, Reply, Want};
 use std::sync::Wait;
 
@@ -76,7 +76,7 @@ impl Map {
         ensures { HasGoneOn self.now (call.Write key want change) seat.old seat.new Unlimited
             (replied_or_refused (uncontended result)) }
     {
-        let reply = write_general(rt, &self.chain, &mut seat.chain, key, want, change)?;
+        let reply = write_rounds(rt, &self.chain, &mut seat.chain, key, want, change)?;
         self.count(&mut seat.count, &change, &reply);
         Ok(reply)
     }

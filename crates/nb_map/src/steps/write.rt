@@ -12,8 +12,7 @@ ghost use Rattle.nb_map.specs.Calling.{HasMade};
 ghost use Rattle.nb_map.specs.Logs.{made_in};
 ghost use Rattle.nb_map.specs.Progress.{IsAtHome, IsHomeSlot, IsLastSeen, IsShortAtHome, Tries, Unlimited, passed_since};
 ghost use Rattle.nb_map.specs.Refusals.{IsJust, uncontended};
-ghost use Rattle.nb_map.specs.Steps.{climb_steps, lost_steps, put_steps};
-ghost use Rattle.nb_map.specs.inside.Climbing.{IsAt, rung_at};
+ghost use Rattle.nb_map.specs.Steps.{put_steps};
 ghost use Rattle.nb_map.specs.inside.Waiting.{HasClimbed, HasTriedAtHome};
 ghost use Rattle.nb_map.specs.inside.Writing.{IsHomeOf};
 
@@ -143,9 +142,9 @@ pub(crate) fn write_above<P: Pause>(
 }
 
 /// The general way of a write that tries again for as long as other seats come first: in the top
-/// table or above it.
+/// table or above it, in rounds of as many tries as there can be.
 #[inline(always)]
-pub(crate) fn write_general<R: Wait>(
+pub(crate) fn write_rounds<R: Wait>(
     rt: &R,
     chain: &Chain,
     seat: &mut ChainSeat,
@@ -157,26 +156,8 @@ pub(crate) fn write_general<R: Wait>(
     ensures { HasClimbed chain.now.shape (call.Write key want change) seat.old seat.new Unlimited
         (uncontended result) }
 {
+    let call = Call::Write { key, want, change };
     let top = chain.load_top(seat);
-    write_rounds(rt, chain, seat, Call::Write { key, want, change }, top)
-}
-
-/// Makes a write in the top table or above it, in rounds of as many tries as there can be.
-#[inline(always)]
-fn write_rounds<R: Wait>(
-    rt: &R,
-    chain: &Chain,
-    seat: &mut ChainSeat,
-    call: Call,
-    top: u32,
-) -> Result<Reply, AddFault>
-    requires at { IsAt chain.now call seat.old (rung_at top) }
-    ensures made { HasMade chain.now.shape call seat.old seat.new (made_in call (uncontended result))
-        (climb_steps chain.now.shape
-        + lost_steps chain.now.shape (passed_since call seat.old seat.new)) }
-    ensures refused { IfErr (uncontended result)
-        (IsJust chain.now.shape call seat.old seat.new Unlimited) }
-{
     for _ in rt.forever() {
         let mut left = u32::MAX;
         match climb(
@@ -205,8 +186,8 @@ fn is_free(word: KeyWord, key: Key) -> bool
     !word.is(key) && word.is_empty()
 }
 
-/// Whether the key has its home slot, which was seen with this key word: it had it then, or the
-/// slot was empty and is claimed for it.
+/// Whether the key has its home slot, which was seen with this key word: it had it then; or the slot
+/// was empty, and is claimed for it, unless the table is being copied.
 #[inline(always)]
 fn has_home(chain: &Chain, seat: &mut ChainSeat, call: &Call, home: Slot, word: KeyWord) -> bool
     requires home { IsHomeOf chain.now call.now seat.old home }
@@ -222,23 +203,12 @@ fn has_home(chain: &Chain, seat: &mut ChainSeat, call: &Call, home: Slot, word: 
         → IsAtHome chain.now.shape (seen_by chain.now.shape seat.new) home.g
         (key_of_call call.now) → ⊥ }
 {
-    word.is(call.key()) || (word.is_empty() && claim_home(chain, seat, call, home))
-}
-
-/// Claims the key's home slot, which was seen empty, for a call that puts a number at an absent
-/// key, unless the table is being copied. Answers whether the key has the slot now.
-#[inline(always)]
-fn claim_home(chain: &Chain, seat: &mut ChainSeat, call: &Call, home: Slot) -> bool
-    requires home { IsHomeOf chain.now call.now seat.old home }
-    requires fills { Fills call.now }
-    ensures made { HasMade chain.now.shape call.now seat.old seat.new [] 2 }
-    ensures claimed { IsTrue result
-        → IsHomeSlot chain.now.shape (seen_by chain.now.shape seat.new) home.g
-        (key_of_call call.now) }
-    ensures away { result ≡ false → IsLastSeen chain.now.shape home.g seat.new
-        → IsAtHome chain.now.shape (seen_by chain.now.shape seat.new) home.g
-        (key_of_call call.now) → ⊥ }
-{
+    if word.is(call.key()) {
+        return true;
+    }
+    if !word.is_empty() {
+        return false;
+    }
     if has_next(chain, seat, home.g) {
         return false;
     }

@@ -12,7 +12,7 @@ use Rattle.nb_map.proofs.map.Map.write_general.Goals as goal
 pub returns-in_err-reply : goal.returns-in_err-reply
 returns-in_err-reply g c =
     let mine = subst₂ IsMine (sym c.self.view_is) (sym c.seat.view_is) c.requires.own in
-    let after : SeatOf = record { chain = c.write_general.new.seat; count = c.seat.inside.count } in
+    let after : SeatOf = record { chain = c.write_rounds.new.seat; count = c.seat.inside.count } in
     let write = call.Write c.args.key c.args.want c.args.change in
     let p = err_from_is_err_and c.from_residual.result c.from_residual.ensures.1 in
     rw (p.1, p.2)
@@ -23,7 +23,7 @@ returns-in_err-reply g c =
 pub returns : goal.returns
 returns g c =
     let mine = subst₂ IsMine (sym c.self.view_is) (sym c.seat.view_is) c.requires.own in
-    let after : SeatOf = record { chain = c.write_general.new.seat; count = c.count.new.seat } in
+    let after : SeatOf = record { chain = c.write_rounds.new.seat; count = c.count.new.seat } in
     let write = call.Write c.args.key c.args.want c.args.change in
     subst₂ (λ map before. HasGoneOn map write before after Unlimited (Replied c.in_ok-reply.reply))
     c.self.view_is c.seat.view_is
