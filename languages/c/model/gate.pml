@@ -171,19 +171,23 @@ inline give_back() {
     mine = 0
 }
 
-/* Gets a lane of its own, and a seat for it unless the lane has one; or goes without, as where the gate is closed, no lane is free, or
+#ifdef SEAT_AT_ANY_TIME
+#define may_arrive true
+#elif defined(SEAT_WHILE_OPEN)
+#define may_arrive admits(WRITES)
+#else
+#define may_arrive !alone
+#endif
+
+/* Gets a lane of its own, and a seat for it unless the lane has one; or goes without, as where somebody is alone, no lane is free, or
    memory is refused. */
 inline arrive() {
     atomic {
         !locked ->
         drain(me);
         if
-#ifdef SEAT_WHILE_CLOSED
-        :: owner[FIRST] == 0 -> mine = FIRST
-#else
-        :: admits(WRITES) && owner[FIRST] == 0 -> mine = FIRST
-#endif
-        :: OWN > 1 && admits(WRITES) && owner[FIRST] != 0 && owner[FIRST + 1] == 0 -> mine = FIRST + 1
+        :: may_arrive && owner[FIRST] == 0 -> mine = FIRST
+        :: OWN > 1 && may_arrive && owner[FIRST] != 0 && owner[FIRST + 1] == 0 -> mine = FIRST + 1
         :: SHARED > 0
         fi;
         if
@@ -385,7 +389,7 @@ inline open_gate() {
 #endif
 }
 
-/* For each lane with a seat one of the core to come, unless it has that; until memory is refused. */
+/* For each lane with a seat one of the core to come, unless it has that; until memory is refused. From now on no lane gets a seat. */
 inline seat_lanes() {
     atomic {
         !locked ->
@@ -397,14 +401,6 @@ inline seat_lanes() {
         }
         t = 0
     }
-}
-
-inline seat_late_lanes() {
-#ifdef NO_SEATS_FOR_LATE_LANES
-    skip
-#else
-    seat_lanes()
-#endif
 }
 
 /* All seats of this core are such from now on. */
@@ -461,11 +457,9 @@ inline renew() {
     :: has_failed
     :: else ->
         close_gate(READS_ONLY);
-        seat_late_lanes();
         if
-        :: has_failed
-        :: !has_failed -> has_failed = true /* more keys came than the core to come has slots */
-        :: !has_failed -> share_out(COPYING); has_failed = refused
+        :: has_failed = true /* more keys came than the core to come has slots */
+        :: share_out(COPYING); has_failed = refused
         fi;
 #ifndef EXCHANGES_WHILE_READS_GO_ON
         if :: has_failed :: else -> close_gate(CLOSED) fi;
@@ -483,7 +477,6 @@ inline clear() {
     :: has_failed
     :: else ->
         close_gate(CLOSED);
-        seat_late_lanes();
         exchange_and_open()
     fi;
     drop()
