@@ -44,11 +44,11 @@
  * with SAMVOLIP_E_NESTED. Else it may read, and write keys that are there. All other calls, and a
  * first call of a thread, may take memory or wait for a thread that does; so a handler that may
  * interrupt malloc or free doesn't make them. A handler neither opens, frees nor leaves a map, and
- * ends no walk.
+ * ends no walk. No thread is cancelled in the middle of a call.
  *
  * Forks. The child of a fork has a map of its own, as the other was between two calls, and may call
- * it. Walks of other threads go on in the parent alone. Make no fork in the middle of a call, as a
- * handler could.
+ * it. Walks of other threads go on in the parent alone; what they hold is the child's for good.
+ * Make no fork in the middle of a call, as a handler could.
  *
  * Pointers are not NULL, but for `options`, `before`, `there` and `visit`.
  */
@@ -136,7 +136,8 @@ void samvolip_map_leave(samvolip_map *map);
  * E_NESTED, is beside each, without SAMVOLIP_.
  *
  * Cost: that of the call of samvolip.h, one store and four loads; and of a first call of a thread a
- * lock. get waits for nobody, but for the moment of an exchange. Writes wait for a renewal.
+ * lock. get waits for nobody, but for the moment of an exchange, and in a thread without a seat of
+ * its own. Writes wait for a renewal.
  */
 int samvolip_map_get(samvolip_map *map, uint64_t key, uint64_t *number);
 
@@ -188,7 +189,7 @@ int samvolip_map_size_estimate(samvolip_map *map, uint64_t *size);
 typedef void samvolip_map_visit(void *context, uint64_t key, uint64_t number);
 
 /* Removes all keys in one step; then shows each of them to `visit`, unless that is NULL. Others may
-   call meanwhile, and so may `visit`. E_OUT_OF_MEMORY */
+   call meanwhile, and so may `visit`, which returns and does not jump out. E_OUT_OF_MEMORY */
 int samvolip_map_clear(samvolip_map *map, samvolip_map_visit *visit, void *context);
 
 /*
