@@ -17,6 +17,7 @@
 void *__libc_malloc(size_t size);
 void *__libc_calloc(size_t count, size_t size);
 void *__libc_realloc(void *block, size_t size);
+void *__libc_memalign(size_t alignment, size_t size);
 void __libc_free(void *block);
 
 static int (*create)(pthread_t *, const pthread_attr_t *, void *(*)(void *), void *);
@@ -95,6 +96,11 @@ void *malloc(size_t size)
 void *calloc(size_t count, size_t size)
 {
     return is_refused() ? none() : taken(__libc_calloc(count, size));
+}
+
+void *aligned_alloc(size_t alignment, size_t size)
+{
+    return is_refused() ? none() : taken(__libc_memalign(alignment, size));
 }
 
 void *realloc(void *block, size_t size)

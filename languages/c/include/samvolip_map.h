@@ -41,9 +41,10 @@
  * a seat.
  *
  * Signals. A handler that interrupts its thread in the middle of a call of any such map is refused
- * with SAMVOLIP_E_NESTED. Else it may call; but a first call of a thread and a renewal take memory,
- * which malloc doesn't allow in a handler. A handler neither opens, frees nor leaves a map, and ends no
- * walk.
+ * with SAMVOLIP_E_NESTED. Else it may read, and write keys that are there. All other calls, and a
+ * first call of a thread, may take memory or wait for a thread that does; so a handler that may
+ * interrupt malloc or free doesn't make them. A handler neither opens, frees nor leaves a map, and
+ * ends no walk.
  *
  * Forks. The child of a fork has a map of its own, as the other was between two calls, and may call
  * it. Walks of other threads go on in the parent alone. Make no fork in the middle of a call, as a

@@ -70,7 +70,7 @@ struct samvolip_map {
     mixing mixing;
     _Alignas(128) pthread_mutex_t lock;
     pthread_cond_t turned; /* the gate, the work or who is alone has changed */
-    atomic_bool alone;     /* somebody renews, counts, lists or forks: nobody else does */
+    atomic_bool alone;     /* somebody renews, counts, lists or forks: nobody else does, and no lane gets a seat */
     job *job;              /* who waits may help; NULL: nothing to do */
     unsigned helpers;
     core *core;
@@ -226,7 +226,7 @@ static bool is_busy(samvolip_map *map, unsigned i, unsigned what)
 }
 
 /* Alone: closes the gate. Afterwards all writes, or all calls, have come to their end. The lock is held all the while, so that no
-   lane gets a seat any more; a call that is under way doesn't take it. */
+   thread gives its lane back and ends; a call that is under way doesn't take it. While the gate is closed nobody takes memory. */
 static void close_gate(samvolip_map *map, enum gate to)
 {
     lock(map);
@@ -330,12 +330,11 @@ static lane *free_lane(samvolip_map *map)
     return empty && samvolip_split(&map->core->reserve, &empty->seat) >= 0 ? empty : NULL;
 }
 
-/* Gives this thread a lane of its own, if there is one and the gate is open. While it is closed no lane gets a seat: who closed it has
-   looked which lanes have one. */
+/* Gives this thread a lane of its own, if there is one and nobody is alone. Who is alone may have looked which lanes have seats. */
 static COLD lane *arrive(samvolip_map *map)
 {
     lock(map);
-    lane *mine = admits(map, WRITES) && !here.is_over && pthread_setspecific(at_end, &here) == 0 ? free_lane(map) : NULL;
+    lane *mine = !map->alone && !here.is_over && pthread_setspecific(at_end, &here) == 0 ? free_lane(map) : NULL;
     if (mine) {
         map->owners[mine - map->lanes] = &here;
         map->taken++;
@@ -551,7 +550,7 @@ static void free_core(core *one)
     free(one);
 }
 
-/* A seat of the core to come for each lane that has a seat. */
+/* Alone: a seat of the core to come for each lane that has a seat. No lane gets one from now on. */
 static int seat_lanes(samvolip_map *map, core *fresh)
 {
     int code = SAMVOLIP_OK;
@@ -626,8 +625,7 @@ static int exchange(samvolip_map *map, uint32_t exponent, samvolip_map_walk *wal
         return code;
     if ((code = seat_lanes(map, fresh)) >= 0) {
         uint64_t writes = stop(map, walk ? CLOSED : READS_ONLY), reads = writes;
-        code = seat_lanes(map, fresh); /* lanes that got a seat meanwhile */
-        if (code >= 0 && !walk) {
+        if (!walk) {
             code = copy(map, fresh);
             reads = code >= 0 ? stop(map, CLOSED) : now();
         }
@@ -928,14 +926,11 @@ int samvolip_map_look(samvolip_map *map, samvolip_map_figures *figures)
 /* Ends a walk; with the core, if that is over and no other walk has it. */
 static void end_walk(samvolip_map_walk *walk)
 {
-    bool was_outside = go_inside();
     lock(walk->map);
     bool is_last = --walk->core->walks == 0 && walk->core->is_over;
     unlock(walk->map);
     if (is_last)
         free_core(walk->core);
-    if (was_outside)
-        go_outside();
 }
 
 /* Whether there are more entries: those of the next slots that have some. The lock isn't held for long. */
@@ -990,8 +985,11 @@ int samvolip_map_walk_next(samvolip_map_walk *walk, uint64_t *key, uint64_t *num
 
 void samvolip_map_walk_end(samvolip_map_walk *walk)
 {
+    bool was_outside = go_inside();
     end_walk(walk);
     free(walk);
+    if (was_outside)
+        go_outside();
 }
 
 int samvolip_map_clear(samvolip_map *map, samvolip_map_visit *visit, void *context)
@@ -1005,7 +1003,10 @@ int samvolip_map_clear(samvolip_map *map, samvolip_map_visit *visit, void *conte
         return code;
     while (visit && samvolip_map_walk_next(&walk, &key, &number) > 0)
         visit(context, key, number);
+    bool was_outside = go_inside();
     end_walk(&walk);
+    if (was_outside)
+        go_outside();
     return SAMVOLIP_OK;
 }
 
