@@ -171,7 +171,7 @@ class Map(Base, MutableMapping[int, int]):  # type: ignore[misc]
             try:
                 key = self._shown.pop()
             except IndexError:
-                shown = list(itertools.islice(self, 1000))
+                shown = list(itertools.islice(self, max(1000, self.size_estimate() // 64)))
                 if not shown:
                     raise KeyError("popitem(): the map is empty") from None
                 self._shown = shown
