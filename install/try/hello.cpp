@@ -1,4 +1,4 @@
-// A program of C++ for .ci/installed: four threads add to one map that any thread may call.
+// A program of C++ for .ci/installed: four threads add to one map.
 #include <array>
 #include <cstdint>
 #include <cstdio>
@@ -7,7 +7,7 @@
 
 int main()
 {
-    samvolip::map map = samvolip::map::for_keys(1000, 5, samvolip::mixed).value();
+    samvolip::map map;
     std::array<std::thread, 4> threads;
     for (auto &thread : threads)
         thread = std::thread([&map] {
@@ -16,6 +16,5 @@ int main()
         });
     for (auto &thread : threads)
         thread.join();
-    samvolip::ended ended = map.close().value();
-    std::printf("%d keys, %d at 7\n", static_cast<int>(ended.size()), static_cast<int>(ended.get(7).value().value()));
+    std::printf("%d keys, %d at 7\n", static_cast<int>(map.size().value()), static_cast<int>(map.get(7).value().value()));
 }

@@ -4,12 +4,10 @@
 //
 // NUMBERS has a number on each line. The threads take the lines in turn. One map has how often each number was there, and another one
 // at which line it was there first. At the end it prints the TOP most frequent numbers (5 by default), each with both. The output is
-// the same for any number of threads.
-//
-// Both maps mix their keys, so it doesn't matter what the numbers have in common. A map takes as many different numbers as there are
-// lines; what else may be refused ends the program with a line on standard error.
+// the same for any number of threads. What is refused ends the program with a line on standard error.
 #include "samvolip.hpp"
 
+#include <algorithm>
 #include <iostream>
 #include <thread>
 
@@ -19,7 +17,7 @@ struct maps {
     samvolip::map counts, firsts;
 };
 
-// Counts the lines of one thread. Each map gives the thread a seat at its first call.
+// Counts the lines of one thread.
 void count(maps &all, const std::vector<std::uint64_t> &lines, std::size_t first, std::size_t step)
 {
     for (std::size_t i = first; i < lines.size(); i += step) {
@@ -42,27 +40,27 @@ std::vector<std::uint64_t> read_lines()
     return lines;
 }
 
+bool comes_first(const samvolip::entry &a, const samvolip::entry &b)
+{
+    return a.number != b.number ? a.number > b.number : a.key < b.key;
+}
+
 void run(unsigned threads_count, std::size_t top)
 {
     const std::vector<std::uint64_t> lines = read_lines();
-    // a seat for each thread that counts
-    const auto shape = samvolip_shape_for_many_keys(lines.size(), threads_count);
-    maps all{samvolip::map::open(shape, samvolip::mixed).value(), samvolip::map::open(shape, samvolip::mixed).value()};
+    maps all;
     std::vector<std::thread> threads;
     for (unsigned i = 0; i < threads_count; i++)
         threads.emplace_back([&, i] { count(all, lines, i, threads_count); });
     for (std::thread &one : threads)
         one.join();
 
-    // the threads have ended, and so given their seats back
-    const samvolip::ended counts = all.counts.close().value(), firsts = all.firsts.close().value();
-    std::vector<samvolip::entry> entries = counts.entries().value();
-    std::stable_sort(entries.begin(), entries.end(), [](const samvolip::entry &a, const samvolip::entry &b) { return a.number > b.number; });
+    std::vector<samvolip::entry> entries = all.counts.snapshot().value();
+    std::sort(entries.begin(), entries.end(), comes_first);
     std::cout << lines.size() << " lines, " << entries.size() << " numbers\n";
-    if (entries.size() > top)
-        entries.resize(top);
+    entries.resize(std::min(entries.size(), top));
     for (const auto &[number, times] : entries)
-        std::cout << number << ": " << times << " times, first at line " << *firsts.get(number).value() << "\n";
+        std::cout << number << ": " << times << " times, first at line " << *all.firsts.get(number).value() << "\n";
 }
 
 } // namespace
@@ -70,8 +68,8 @@ void run(unsigned threads_count, std::size_t top)
 int main(int count, char **words)
 {
     const unsigned long threads_count = count > 1 ? std::strtoul(words[1], nullptr, 10) : 1;
-    if (threads_count < 1 || threads_count > SAMVOLIP_MAX_SEATS) {
-        std::cerr << "usage: count THREADS [TOP] < NUMBERS, with 1 to " << SAMVOLIP_MAX_SEATS << " threads\n";
+    if (threads_count < 1 || threads_count > 1000) {
+        std::cerr << "usage: count THREADS [TOP] < NUMBERS, with 1 to 1000 threads\n";
         return 2;
     }
     try {

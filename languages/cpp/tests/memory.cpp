@@ -1,6 +1,6 @@
-// Every call of samvolip.hpp that takes memory, made again where it is refused. Run under .ci/refuse.c, with each request refused in
-// turn: nothing is lost by a refusal, and all memory is given back. It prints nothing, since that takes memory too.
-#include "samvolip.hpp"
+// Every call of C++ that takes memory, made again where it is refused. Run under .ci/refuse.c, with each request refused in turn:
+// nothing is lost by a refusal, and all memory is given back. It prints nothing, since that takes memory too.
+#include "samvolip_seats.hpp"
 
 #include "../../c/tests/expect.h"
 
@@ -21,62 +21,72 @@ template <class Call> auto made(Call call)
     }
 }
 
-samvolip::map opened()
+void has_keys(const std::vector<samvolip::entry> &entries, std::uint64_t count)
 {
-    return made([] { return samvolip::map::open({{3, 4}, 2, 3, 1, UINT32_MAX, 8}, samvolip::mixed); });
+    EXPECT(entries.size() == count);
+    for (auto [key, number] : entries)
+        EXPECT(key == number << 16 && number < count);
+}
+
+// A map that grows by itself and by hand, is listed, walked over and cleared.
+void of_a_map()
+{
+    samvolip::options options;
+    options.room = 10;
+    options.threads = 2;
+    samvolip::map map = made([&] { return samvolip::map::open(options); });
+    for (std::uint64_t i = 0; i < 200; i++)
+        EXPECT(made([&] { return map.insert_or_assign(i << 16, i); }));
+    has_keys(made([&] { return map.snapshot(); }), 200);
+    made([&] { return map.renew(1000); });
+    {
+        samvolip::walk walk = made([&] { return map.walk(); });
+        made([&] { return map.renew(); });
+        std::uint64_t shown = 0, sum = 0;
+        for (; const auto next = walk.next().value(); shown++)
+            sum += next->key == next->number << 16 ? next->number : 0;
+        EXPECT(shown == 200 && sum == 199 * 200 / 2);
+    }
+    EXPECT(map.size().value() == 200);
+    std::uint64_t gone = 0;
+    made([&] { return map.clear([&](std::uint64_t, std::uint64_t) { gone++; }); });
+    EXPECT(gone == 200 && map.size().value() == 0);
+    made([&] { return map.add(1, 1); });
+    samvolip::map moved = made([&] { return samvolip::map::open(); });
+    moved = std::move(map);
+    EXPECT(moved.get(1).value() == 1u);
+}
+
+void of_seats()
+{
+    samvolip::seat all = made([] { return samvolip::seat::open({{3, 4}, 2, 3, 1, UINT32_MAX, 8}); });
+    samvolip::seat other = made([&] { return all.split(); });
+    for (std::uint64_t i = 0; i < 12; i++)
+        EXPECT((i % 2 ? all : other).insert_or_assign(i << 16, i).value());
+    EXPECT(all.join(std::move(other)).has_value() && made([&] { return all.settle(); }) == 12);
+    has_keys(made([&] { return all.entries(); }), 12);
+    for (unsigned seats : {5u, 2u}) {
+        const samvolip::shape next = {{3, seats == 5 ? 6u : 4u}, 2, seats, 1, UINT32_MAX, 8};
+        made([&] {
+            auto answer = all.renew(next);
+            EXPECT(all.get(11 << 16).value() == 11u);
+            return answer;
+        });
+        has_keys(made([&] { return all.entries(); }), 12);
+    }
+    samvolip::ended ended = made([&] { return all.close(); });
+    has_keys(made([&] { return ended.entries(); }), 12);
+
+    // one that isn't closed
+    samvolip::seat dropped = made([] { return samvolip::seat::open({{3, 4}, 2, 3, 1, UINT32_MAX, 8}); });
+    EXPECT(dropped.add(1, 1).has_value());
 }
 
 } // namespace
 
 int main()
 {
-    samvolip::map map = opened();
-    for (std::uint64_t key = 0; key < 8; key++)
-        made([&] { return map.put(key << 16, key); });
-    samvolip::seat seat = made([&] { return map.take_seat(); });
-    for (std::uint64_t key = 8; key < 12; key++)
-        EXPECT(seat.put(key << 16, key).value() == std::nullopt);
-    samvolip::seat last = made([&] { return map.take_seat(); });
-    EXPECT(map.take_seat().error().why() == fault::no_seat);
-    EXPECT(map.close().error().seats() == 2);
-    last = samvolip::seat();
-    seat = samvolip::seat();
-    last = samvolip::seat();
-    EXPECT(made([&] { return map.settle(); }) == 12);
-    EXPECT(made([&] { return map.entries(); }).size() == 12);
-
-    // a refused renewal leaves the map as it was; a larger one has more seats, and a smaller one fewer
-    for (unsigned seats : {5u, 2u, 3u}) {
-        const unsigned before = map.seats();
-        const samvolip::shape next = {{3, seats == 5 ? 6u : 4u}, 2, seats, 1, UINT32_MAX, 8};
-        EXPECT(made([&] {
-                   auto answer = map.renew(next);
-                   if (!answer.has_value())
-                       EXPECT(map.seats() == before && made([&] { return map.get(11 << 16); }) == 11u);
-                   return answer;
-               })
-               == seats);
-        EXPECT(map.seats() == seats && made([&] { return map.get(11 << 16); }) == 11u);
-        const auto listed = made([&] { return map.entries(); });
-        EXPECT(listed.size() == 12);
-        for (const samvolip::entry &one : listed)
-            EXPECT(one.key == one.number << 16 && one.number < 12);
-    }
-    made([&] { return map.put(0, 0); });
-    samvolip::ended ended = made([&] { return map.close(); });
-    EXPECT(map.get(0).error().why() == fault::empty);
-    const auto entries = made([&] { return ended.entries(); });
-    EXPECT(entries.size() == 12);
-    for (std::uint64_t i = 0; i < 12; i++)
-        EXPECT(entries[i].key == i << 16 && entries[i].number == i);
-
-    // a map that isn't closed, and one that a seat outlives
-    samvolip::map dropped = opened();
-    made([&] { return dropped.add(1, 1); });
-    samvolip::map outlived = opened();
-    made([&] { return outlived.add(1, 1); });
-    samvolip::seat outlives = made([&] { return outlived.take_seat(); });
-    outlived = samvolip::map();
-    EXPECT(outlives.get(1).value() == 1u);
+    of_a_map();
+    of_seats();
     return 0;
 }
