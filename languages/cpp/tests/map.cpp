@@ -6,7 +6,8 @@
 #include <csignal>
 #include <map>
 #include <set>
-#include <sys/time.h>
+#include <ucontext.h>
+#include <x86intrin.h>
 
 using samvolip::emplaced;
 using samvolip::fault;
@@ -324,29 +325,54 @@ void keeps_to_its_memory()
     EXPECT(map.figures()->refused > 0 && map.size().value() == key && map.add(0, 5).value() == 0u);
 }
 
-// ---- a handler in the middle of a call
+// ---- a handler after each single instruction of a call, by the processor's trap flag
 
+constexpr unsigned long long trap_flag = 0x100;
 samvolip::map *interrupted;
-volatile std::sig_atomic_t made, nested;
+std::uint64_t steps, wanted, made, nested;
 
-void interrupt(int)
+void interrupt(int, siginfo_t *, void *given)
 {
-    const auto answer = interrupted->get(7);
-    EXPECT(answer.has_value() ? *answer == 5u : answer.error().why() == fault::nested);
-    (answer.has_value() ? made : nested) = 1;
+    if (steps++ < wanted)
+        return;
+    static_cast<ucontext_t *>(given)->uc_mcontext.gregs[REG_EFL] &= ~static_cast<greg_t>(trap_flag);
+    const auto answer = interrupted->add(7, 1);
+    EXPECT(answer.has_value() || answer.error().why() == fault::nested);
+    (answer.has_value() ? made : nested)++;
 }
 
-void refuses_a_handler()
+// Makes a call again and again, each time with the handler so many instructions later. Before each call the thread calls another map,
+// which has the same place among those that it remembers.
+template <class Call> void interrupts(samvolip::map &map, samvolip::map &other, Call call)
 {
-    samvolip::map map;
-    EXPECT(map.insert_or_assign(7, 5).value());
+    std::uint64_t adds = map.get(7).value().value();
+    bool is_over = false;
     interrupted = &map;
-    std::signal(SIGALRM, interrupt);
-    const itimerval often = {{0, 100}, {0, 100}}, never = {};
-    setitimer(ITIMER_REAL, &often, nullptr);
-    for (std::uint64_t i = 0; !made || !nested; i++)
-        EXPECT(map.exchange(8, i).has_value());
-    setitimer(ITIMER_REAL, &never, nullptr);
+    for (wanted = made = nested = 0; !is_over; wanted += wanted < 60 ? 1 : 7) {
+        EXPECT(other.get(7).value() == 1000u);
+        const std::uint64_t before = made;
+        steps = 0;
+        __writeeflags(__readeflags() | trap_flag);
+        const bool adds_one = call(map);
+        __writeeflags(__readeflags() & ~trap_flag);
+        is_over = steps <= wanted;
+        adds += made - before + adds_one;
+        EXPECT(map.get(7).value() == adds && other.get(7).value() == 1000u);
+    }
+    EXPECT(made > 0 && nested > 0);
+}
+
+void takes_handlers()
+{
+    struct sigaction action = {};
+    action.sa_sigaction = interrupt;
+    action.sa_flags = SA_SIGINFO;
+    EXPECT(sigaction(SIGTRAP, &action, nullptr) == 0);
+    std::vector<samvolip::map> maps(9);
+    for (samvolip::map &map : maps)
+        EXPECT(map.insert_or_assign(7, &map == &maps[0] ? 0 : 1000).value());
+    interrupts(maps[0], maps[8], [](samvolip::map &map) { return map.add(7, 1).has_value(); });
+    interrupts(maps[0], maps[8], [](samvolip::map &map) { return !map.get(7).has_value(); });
 }
 
 } // namespace
@@ -367,7 +393,8 @@ int main()
     never_fills();
     opens_and_moves();
     keeps_to_its_memory();
-    refuses_a_handler();
+    if (!IS_SANITIZED)
+        takes_handlers();
     std::puts("map: well");
     return 0;
 }
