@@ -1,8 +1,9 @@
 //! Finds libsamvolip.
 //!
 //! SAMVOLIP_LIB is its folder, or the file. If there is a `libsamvolip.a`, it is linked into the program; else
-//! `libsamvolip.so`, with the folder as rpath. Without SAMVOLIP_LIB, pkg-config tells where the installed library is
-//! (PKG_CONFIG is the command), and that is its rpath.
+//! `libsamvolip.so`, with the folder as rpath. Without SAMVOLIP_LIB it is the `libsamvolip.a` in this package's own folder, as
+//! an installed copy has it. Without that pkg-config tells where the installed library is (PKG_CONFIG is the command), and that
+//! is its rpath.
 //!
 //! An rpath reaches the programs of this package alone. The build script of a package over this one finds the folder of a
 //! shared library in DEP_SAMVOLIP_LIBDIR.
@@ -12,13 +13,14 @@ use std::path::{Path, PathBuf};
 use std::process::Command;
 
 fn main() {
-    // set for the thread sanitizer, which src/pool.rs has to make allowance for
-    println!("cargo:rustc-check-cfg=cfg(samvolip_tsan)");
     for name in ["SAMVOLIP_LIB", "PKG_CONFIG", "PKG_CONFIG_PATH"] {
         println!("cargo:rerun-if-env-changed={name}");
     }
+    let own = PathBuf::from(env::var_os("CARGO_MANIFEST_DIR").expect("cargo sets it"));
     if let Some(place) = env::var_os("SAMVOLIP_LIB") {
         link_from(Path::new(&place));
+    } else if own.join(ARCHIVE).exists() {
+        link_one_of(&own, ARCHIVE, ARCHIVE);
     } else if let Some(folder) = installed() {
         link_one_of(&folder, SHARED, ARCHIVE);
     } else {

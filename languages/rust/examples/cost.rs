@@ -1,45 +1,66 @@
-//! What a call takes, in nanoseconds: by a map that any thread may call, and by a seat; keys mixed, and as they are. Each line is the best and
-//! the middle one of many short rounds, so that it holds on a busy machine, too. Build it with --release.
+//! What a call takes, in nanoseconds, beside a `HashMap` of std behind a `Mutex` or an `RwLock`: by one thread, and by several
+//! that call at once. Each figure is the best of some rounds, so that it holds on a busy machine, too. Build it with --release.
+//! `cost THREADS` says how many several are; else it is 4.
 
-use samvolip::{Fault, Keys, Map, Shape};
+use samvolip::{Keys, Map, Options};
+use std::collections::HashMap;
+use std::env::args;
 use std::hint::black_box;
+use std::sync::{Barrier, Mutex, RwLock};
+use std::thread;
 use std::time::Instant;
 
-const ROUNDS: usize = 2001;
-const CALLS: u64 = 2000;
+const KEYS: u64 = 10_000;
 
-fn main() -> Result<(), Fault> {
-    let shape = Shape::for_keys(CALLS, 2).unwrap();
-    println!("{:34} {:>6} {:>7}", "", "best", "middle");
-    for keys in [Keys::Mixed, Keys::Plain] {
-        let map = Map::open_with(&shape, keys)?;
-        map.try_extend((0..CALLS).map(|key| (key, key)))?;
-        tell(&format!("get by the map, {keys:?}"), |key| map.get(key));
-        tell(&format!("add by the map, {keys:?}"), |key| map.add(key, 1));
-        let mut seat = map.seat()?;
-        tell(&format!("get by a seat, {keys:?}"), |key| seat.get(key));
-        tell(&format!("add by a seat, {keys:?}"), |key| seat.add(key, 1));
-    }
-    let map = Map::open(&shape)?;
-    tell("first call and giving back", |key| {
-        map.get(key)?;
-        map.give_back()?;
-        Ok(None)
+fn main() {
+    let several = args().nth(1).map_or(4, |word| word.parse().expect("a number of threads"));
+    let entries = || (0..KEYS).map(|key| (key, key));
+    let map = |keys| {
+        let map = Map::with_options(Options::new().room(2 * KEYS as usize).keys(keys)).unwrap();
+        map.try_extend(entries()).unwrap();
+        map
+    };
+    let (secret, plain) = (map(Keys::Secret), map(Keys::AsTheyAre));
+    let mutex: Mutex<HashMap<u64, u64>> = Mutex::new(entries().collect());
+    let rwlock: RwLock<HashMap<u64, u64>> = RwLock::new(entries().collect());
+    println!("{:28} {:>8} {:>10}", "", "1 thread", format!("{several} threads"));
+    let tell = |name: &str, call: &(dyn Fn(u64) -> Option<u64> + Sync)| {
+        println!("{name:28} {:8.1} {:10.1}", cost(1, 300, 2000, call), cost(several, 10, 100_000, call));
+    };
+    tell("get, Map", &|key| secret.get(key));
+    tell("get, Map, keys as they are", &|key| plain.get(key));
+    tell("get, Mutex<HashMap>", &|key| mutex.lock().unwrap().get(&key).copied());
+    tell("get, RwLock<HashMap>", &|key| rwlock.read().unwrap().get(&key).copied());
+    tell("add, Map", &|key| secret.fetch_add(key, 1));
+    tell("add, Map, keys as they are", &|key| plain.fetch_add(key, 1));
+    tell("add, Mutex<HashMap>", &|key| mutex.lock().unwrap().get_mut(&key).map(|value| std::mem::replace(value, *value + 1)));
+    tell("remove and insert, Map", &|key| secret.remove(key).and_then(|value| secret.insert(key, value)));
+    tell("the same, Mutex<HashMap>", &|key| {
+        let value = mutex.lock().unwrap().remove(&key).unwrap_or(0);
+        mutex.lock().unwrap().insert(key, value)
     });
-    Ok(())
 }
 
-/// Makes the call with each key, in many rounds, and prints what one took.
-fn tell(name: &str, mut call: impl FnMut(u64) -> Result<Option<u64>, Fault>) {
-    let mut rounds: Vec<f64> = (0..ROUNDS)
-        .map(|_| {
-            let start = Instant::now();
-            for key in 0..CALLS {
-                black_box(call(black_box(key))).unwrap();
-            }
-            start.elapsed().as_nanos() as f64 / CALLS as f64
+/// What one of so many threads takes for a call, while the others call: the best of so many rounds of so many calls. The keys
+/// come in no order.
+fn cost(threads: u64, rounds: usize, calls: u64, call: &(dyn Fn(u64) -> Option<u64> + Sync)) -> f64 {
+    let round = |number: u64| {
+        for i in number * calls..(number + 1) * calls {
+            black_box(call(black_box(i * 7919 % KEYS)));
+        }
+    };
+    let barrier = &Barrier::new(threads as usize);
+    let rounds_of = move |number: u64| {
+        (0..rounds).fold(f64::INFINITY, |best, _| {
+            barrier.wait();
+            let begun = Instant::now();
+            round(number);
+            barrier.wait();
+            best.min(begun.elapsed().as_nanos() as f64 / calls as f64)
         })
-        .collect();
-    rounds.sort_by(f64::total_cmp);
-    println!("{name:34} {:6.1} {:7.1}", rounds[0], rounds[ROUNDS / 2]);
+    };
+    thread::scope(|scope| {
+        let workers: Vec<_> = (0..threads).map(|number| scope.spawn(move || rounds_of(number))).collect();
+        workers.into_iter().map(|worker| worker.join().unwrap()).fold(f64::INFINITY, f64::min)
+    })
 }

@@ -1,58 +1,66 @@
-//! A map from whole numbers to whole numbers that many threads read and write at the same time, without locks. It
-//! calls the library of `samvolip.h`, which is proved in Rattle; this crate is only tested.
+//! A map from whole numbers to whole numbers that many threads read and write at the same time, without locks.
 //!
 //! ```
 //! use samvolip::Map;
 //! use std::thread;
 //!
-//! let map = Map::for_keys(10_000, 9)?; // room for 10,000 keys, and for 8 threads and this one
+//! let visits = Map::new();
 //! thread::scope(|scope| {
 //!     for _ in 0..8 {
-//!         scope.spawn(|| map.add(7, 1).unwrap());
+//!         scope.spawn(|| visits.fetch_add(7, 1));
 //!     }
 //! });
-//! assert_eq!(map.get(7)?, Some(8));
-//! # Ok::<(), samvolip::Fault>(())
+//! assert_eq!(visits.get(7), Some(8));
 //! ```
 //!
-//! # Maps and seats
+//! It calls libsamvolip. The map in it is proved in Rattle, and ends when its tables are full; a layer of C puts another one in
+//! its place then. That layer and this crate are tested.
 //!
-//! A *seat* is the right of one thread at a time to call. A map has 1 to 256, as its [`Shape`] says.
+//! # Threads
 //!
-//! - Any thread may call a [`Map`]. At its first call a thread takes a seat, and it gives it back when it ends, or by
-//!   [`Map::give_back`]. Only these two moments, and the map's end, take a lock. The end of `thread::scope` doesn't wait
-//!   until the seats of its threads are back; `join` of a handle does.
-//! - A [`Seat`] is one that the program holds itself. [`Seat::open`] makes a map with all its seats in one;
-//!   [`Seat::split`] gives one to another thread. It saves a call the look at the thread's words.
+//! A [`Map`] is `Send` and `Sync`, and its clones are handles to one map. Any thread may call, any number of threads at a time.
+//! 64 threads have a way of their own into the map ([`Options::threads`]), which they give back when they end; more than these
+//! share six, and wait for each other there.
 //!
-//! # Keys and numbers
+//! # Larger and smaller
 //!
-//! Keys are at most [`KEY_MAX`], and numbers at most [`VALUE_MAX`]. A table finds a key by its low bits. So many keys that
-//! share them are slow: 20,000 keys of step 65,536 take 24 to 35 µs a put. A [`Map`] mixes its keys, unless it is told
-//! [`Keys::Plain`]. A [`Seat`] takes them as they are, unless it is told [`Keys::Mixed`].
+//! A write that finds the map two thirds full, or far too large for its keys, puts other tables in the place of those that there
+//! are. Other writes wait meanwhile, and those threads help to copy. Reads go on, but for the moment of the exchange. No answer
+//! shows it. [`Map::figures`] tells how often that was, and how long it took.
 //!
-//! # Refusals
+//! # Keys and values
 //!
-//! A refused call tells a [`Fault`], and has changed nothing. A call that takes something and is refused gives it back, in
-//! a [`Refused`] or an [`Unclosed`]. All three are errors.
+//! Keys are at most [`KEY_MAX`], and values at most [`VALUE_MAX`]. A key or a value past these is in no map: reads and removals
+//! find nothing there. A write of one is refused. [`key_of`] makes keys of strings, and of all that has a hash.
+//!
+//! # Panics
+//!
+//! A call that is refused panics, and has changed nothing:
+//!
+//! - a write of a key or a value that is out of range, or an addition whose sum is;
+//! - a write of a new key, or another call that needs memory, if there is none for the map's tables;
+//! - any call by a signal handler in the middle of another call of its thread.
+//!
+//! Each call that may be refused for a range or for memory has a `try_` form, which answers an [`Error`] in place of that. So
+//! [`Map::try_insert`] is [`Map::insert`], and not [`Map::insert_if_absent`].
+//!
+//! The functions that are given to a call may call the map, and may panic.
+//!
+//! # Versions
+//!
+//! It takes Rust 1.73 or later, edition 2021, on Linux on x86-64, and has no dependencies. The build script finds libsamvolip by
+//! `SAMVOLIP_LIB`, which names a folder or a file; else in the crate's own folder; else by pkg-config.
 
-#![warn(missing_docs)]
+#![deny(missing_docs, unsafe_code)]
 
-mod ended;
-mod fault;
-mod keys;
+mod error;
+mod hash;
 mod map;
-mod occupancy;
-mod pool;
-mod seat;
-mod shape;
+mod options;
 mod sys;
 
-pub use ended::Ended;
-pub use fault::{Fault, Refused, Unclosed};
-pub use keys::{mix, unmix, Keys};
-pub use map::{Iter, Map, SeatGuard};
-pub use occupancy::Occupancy;
-pub use seat::{Change, Reply, Seat, Walk, Want};
-pub use shape::Shape;
-pub use sys::{KEY_MAX, MANY_KEYS, MOST_KEYS, VALUE_MAX};
+pub use error::Error;
+pub use hash::key_of;
+pub use map::{Iter, Map};
+pub use options::{Figures, Keys, Options};
+pub use sys::{KEY_MAX, VALUE_MAX};

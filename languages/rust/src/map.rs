@@ -1,436 +1,501 @@
 //! A map that any thread may call.
 
-use crate::pool::Pool;
-use crate::seat::update_from;
-use crate::{sys, Change, Ended, Fault, Keys, Occupancy, Reply, Seat, Shape, Unclosed, Want, MOST_KEYS};
+use crate::error::sure;
+use crate::{sys, Error, Figures, Options};
 use std::fmt;
 use std::iter::FusedIterator;
-use std::marker::PhantomData;
-use std::ops::{Deref, DerefMut};
-use std::sync::Arc;
-use std::thread;
 
-/// A map that any thread may call, by `&`.
+/// A map that any thread may call, by `&`. [The crate's first page](crate) says what that means, and when a call panics.
 ///
-/// A thread takes one of the map's seats at its first call, and gives it back when it ends, or by
-/// [`give_back`](Map::give_back). Only then, and at the map's end, a lock is taken. While all seats are taken, the first call of one more thread is
-/// refused as [`Fault::AllSeatsTaken`]. So each call may be refused so, besides what is said there.
-///
-/// The map mixes its keys, unless it is opened with [`Keys::Plain`].
+/// A clone is a handle to the same map, as that of an `Arc` is. The map goes with its last handle.
 ///
 /// ```
 /// use samvolip::Map;
 ///
-/// let map = Map::for_keys(1000, 4)?;
-/// map.put(7, 5)?;
-/// assert_eq!(map.or_insert(7, 1)?, 5);
-/// map.update(7, |found| found.map(|number| number * 2))?;
-/// assert_eq!(map.close()?.entries()?, [(7, 10)]);
-/// # Ok::<(), Box<dyn std::error::Error + Send + Sync>>(())
+/// let map = Map::new();
+/// map.insert(7, 5);
+/// assert_eq!(map.get_or_insert(7, 1), 5);
+/// map.update(7, |found| found.map(|value| value * 2));
+/// assert_eq!(map.snapshot(), [(7, 10)]);
 /// ```
+#[derive(Clone)]
 pub struct Map {
-    pool: Arc<Pool>,
-    keys: Keys,
+    handle: sys::Handle,
 }
 
+/// How a map begins.
 impl Map {
-    /// A map with room to spare for so many different keys, and for so many threads at a time. Its shape is
-    /// [`Shape::for_keys`] up to [`MOST_KEYS`], and [`Shape::for_many_keys`] beyond. Refused as [`open`](Map::open).
-    pub fn for_keys(most: u64, seats: u32) -> Result<Map, Fault> {
-        let shape = match most {
-            0..=MOST_KEYS => Shape::for_keys(most, seats),
-            _ => Shape::for_many_keys(most, seats),
-        };
-        Map::open(&shape.ok_or(Fault::Tables)?)
+    /// An empty map. It takes 32 KiB for its tables, and becomes larger and smaller as its keys do.
+    ///
+    /// # Panics
+    ///
+    /// Without memory, or if the library is of another version than this crate.
+    #[track_caller]
+    pub fn new() -> Map {
+        sure(Map::with_options(Options::new()))
     }
 
-    /// A map of this shape. It takes all memory that it will have. Refused by what is wrong with the shape;
-    /// [`Fault::OutOfMemory`]; [`Fault::Version`].
-    pub fn open(shape: &Shape) -> Result<Map, Fault> {
-        Map::open_with(shape, Keys::Mixed)
+    /// An empty map that is opened so. Refused as [`Error::Options`], [`Error::OutOfMemory`] or [`Error::Version`].
+    pub fn with_options(options: Options) -> Result<Map, Error> {
+        Ok(Map { handle: sys::Handle::open(&options.0)? })
     }
+}
 
-    /// The same for a map that keeps its keys as it is told.
-    pub fn open_with(shape: &Shape, keys: Keys) -> Result<Map, Fault> {
-        let first = Seat::open_with(shape, keys)?;
-        Ok(Map { pool: Pool::of(first.map(), shape.seats, vec![first]), keys })
-    }
-
-    /// How many threads may call at a time.
-    pub fn seats(&self) -> u32 {
-        self.pool.seats()
-    }
-
-    /// How the map keeps its keys.
-    pub fn keys(&self) -> Keys {
-        self.keys
-    }
-
-    /// Makes a call with this thread's seat.
+/// Calls of one key. Each is one step on the map.
+impl Map {
+    /// The value at a key. It waits for nobody, but for the moment in which one table takes another's place.
     #[inline]
-    fn with<T>(&self, call: impl FnOnce(&mut Seat) -> Result<T, Fault>) -> Result<T, Fault> {
-        // SAFETY: this thread has claimed the slot, and no call of a seat that comes here calls back.
-        call(unsafe { self.pool.own()?.seat() })
+    #[track_caller]
+    pub fn get(&self, key: u64) -> Option<u64> {
+        sure(self.try_get(key))
     }
 
-    /// What is at a key. Wait-free. Refused as [`Fault::KeyRange`].
+    /// Whether there is a value at a key.
     #[inline]
-    pub fn get(&self, key: u64) -> Result<Option<u64>, Fault> {
-        self.with(|seat| seat.get(key))
+    #[track_caller]
+    pub fn contains_key(&self, key: u64) -> bool {
+        sure(nowhere(self.handle.contains(key), false))
     }
 
-    /// Whether there is a number at a key. Refused as [`get`](Map::get).
+    /// Sets a key to a value, and returns what was there.
     #[inline]
-    pub fn contains_key(&self, key: u64) -> Result<bool, Fault> {
-        self.with(|seat| seat.contains_key(key))
+    #[track_caller]
+    pub fn insert(&self, key: u64, value: u64) -> Option<u64> {
+        sure(self.try_insert(key, value))
     }
 
-    /// The write behind all others, with so many tries; 0 counts as one. Refused as [`Seat::put_if_match`].
+    /// Sets a key to a value if it has none, and returns what was there.
+    ///
+    /// ```
+    /// # let map = samvolip::Map::new();
+    /// assert_eq!(map.insert_if_absent(7, 5), None);
+    /// assert_eq!(map.insert_if_absent(7, 6), Some(5));
+    /// assert_eq!(map.get(7), Some(5));
+    /// ```
     #[inline]
-    pub fn put_if_match(
-        &self,
-        key: u64,
-        want: Want,
-        change: Change,
-        tries: u32,
-    ) -> Result<Reply, Fault> {
-        self.with(|seat| seat.put_if_match(key, want, change, tries))
+    #[track_caller]
+    pub fn insert_if_absent(&self, key: u64, value: u64) -> Option<u64> {
+        sure(self.try_insert_if_absent(key, value))
     }
 
-    /// Puts a number at a key, and answers what was there. Refused as [`Fault::KeyRange`], [`Fault::ValueRange`] or
-    /// [`Fault::Full`].
+    /// The value at a key, which is set to this one if it has none.
     #[inline]
-    pub fn put(&self, key: u64, number: u64) -> Result<Option<u64>, Fault> {
-        self.with(|seat| seat.put(key, number))
+    #[track_caller]
+    pub fn get_or_insert(&self, key: u64, value: u64) -> u64 {
+        self.insert_if_absent(key, value).unwrap_or(value)
     }
 
-    /// Puts a number at a key that has none, and answers what was there. Refused as [`put`](Map::put).
-    #[inline]
-    pub fn put_if_absent(&self, key: u64, number: u64) -> Result<Option<u64>, Fault> {
-        self.with(|seat| seat.put_if_absent(key, number))
-    }
-
-    /// Puts a number in place of another, and answers what was there. Refused as [`Fault::KeyRange`] or
-    /// [`Fault::ValueRange`].
-    #[inline]
-    pub fn replace(&self, key: u64, number: u64) -> Result<Option<u64>, Fault> {
-        self.with(|seat| seat.replace(key, number))
-    }
-
-    /// Puts a number in place of `old`, and answers whether it did. Refused as [`replace`](Map::replace).
-    #[inline]
-    pub fn replace_if(&self, key: u64, old: u64, number: u64) -> Result<bool, Fault> {
-        self.with(|seat| seat.replace_if(key, old, number))
-    }
-
-    /// Takes a key out, and answers what was there. Refused as [`get`](Map::get).
-    #[inline]
-    pub fn remove(&self, key: u64) -> Result<Option<u64>, Fault> {
-        self.with(|seat| seat.remove(key))
-    }
-
-    /// Takes out a key that has this number, and answers whether it did. Refused as [`replace`](Map::replace).
-    #[inline]
-    pub fn remove_if(&self, key: u64, number: u64) -> Result<bool, Fault> {
-        self.with(|seat| seat.remove_if(key, number))
-    }
-
-    /// Adds a number to what is at a key, or to 0, and answers what was there. Refused as [`put`](Map::put), or as
-    /// [`Fault::SumRange`].
-    #[inline]
-    pub fn add(&self, key: u64, number: u64) -> Result<Option<u64>, Fault> {
-        self.with(|seat| seat.add(key, number))
-    }
-
-    /// Sets a key to `new` if it is at `old`, by one step; `None` is no number. Refused as [`put`](Map::put).
-    #[inline]
-    pub fn compare_exchange(
-        &self,
-        key: u64,
-        old: Option<u64>,
-        new: Option<u64>,
-    ) -> Result<Reply, Fault> {
-        self.with(|seat| seat.compare_exchange(key, old, new))
-    }
-
-    /// The number at a key, which is put there if there is none. Refused as [`put`](Map::put).
-    #[inline]
-    pub fn or_insert(&self, key: u64, number: u64) -> Result<u64, Fault> {
-        self.with(|seat| seat.or_insert(key, number))
-    }
-
-    /// The number at a key. If there is none, what `make` makes is put there, unless another thread comes first. `make` may
-    /// call the map. Refused as [`put`](Map::put).
-    pub fn or_insert_with(&self, key: u64, make: impl FnOnce() -> u64) -> Result<u64, Fault> {
-        match self.get(key)? {
-            Some(number) => Ok(number),
-            None => self.or_insert(key, make()),
+    /// The value at a key. If it has none, it is set to what `make` makes, unless another thread comes first. `make` may call
+    /// the map.
+    #[track_caller]
+    pub fn get_or_insert_with(&self, key: u64, make: impl FnOnce() -> u64) -> u64 {
+        match self.get(key) {
+            Some(value) => value,
+            None => self.get_or_insert(key, make()),
         }
     }
 
-    /// Sets a key to what `next` makes of its number, and answers what was there. `None` is no number. `next` is called
-    /// again if another thread wrote the key meanwhile; it may call the map. Refused as [`put`](Map::put).
-    pub fn update(
+    /// Sets a key to a value if it has one, and returns what was there.
+    #[inline]
+    #[track_caller]
+    pub fn replace(&self, key: u64, value: u64) -> Option<u64> {
+        sure(self.try_replace(key, value))
+    }
+
+    /// Sets a key to a value if it is at `old`, and returns whether it was.
+    #[inline]
+    #[track_caller]
+    pub fn replace_if(&self, key: u64, old: u64, value: u64) -> bool {
+        sure(self.try_replace_if(key, old, value))
+    }
+
+    /// Removes a key, and returns what was there.
+    #[inline]
+    #[track_caller]
+    pub fn remove(&self, key: u64) -> Option<u64> {
+        sure(nowhere(self.handle.remove(key), None))
+    }
+
+    /// Removes a key if it is at this value, and returns whether it was.
+    #[inline]
+    #[track_caller]
+    pub fn remove_if(&self, key: u64, value: u64) -> bool {
+        sure(nowhere(self.handle.remove_if(key, value), false))
+    }
+
+    /// Adds to the value at a key, or to 0, and returns what was there.
+    ///
+    /// ```
+    /// # let map = samvolip::Map::new();
+    /// assert_eq!(map.fetch_add(7, 2), None);
+    /// assert_eq!(map.fetch_add(7, 3), Some(2));
+    /// assert_eq!(map.get(7), Some(5));
+    /// ```
+    #[inline]
+    #[track_caller]
+    pub fn fetch_add(&self, key: u64, value: u64) -> Option<u64> {
+        sure(self.try_fetch_add(key, value))
+    }
+
+    /// Sets a key to the greater one of its value and this one, or to this one if it has none, and returns what was there.
+    #[inline]
+    #[track_caller]
+    pub fn fetch_max(&self, key: u64, value: u64) -> Option<u64> {
+        sure(self.try_fetch_max(key, value))
+    }
+
+    /// Sets a key to the smaller one of its value and this one, or to this one if it has none, and returns what was there.
+    #[inline]
+    #[track_caller]
+    pub fn fetch_min(&self, key: u64, value: u64) -> Option<u64> {
+        sure(self.try_fetch_min(key, value))
+    }
+
+    /// Sets a key to `new` if it is at `current`, where `None` is no value. Either way it returns what was there: as `Ok` if
+    /// that was `current`.
+    ///
+    /// ```
+    /// # let map = samvolip::Map::new();
+    /// assert_eq!(map.compare_exchange(7, None, Some(5)), Ok(None));
+    /// assert_eq!(map.compare_exchange(7, Some(4), Some(6)), Err(Some(5)));
+    /// assert_eq!(map.compare_exchange(7, Some(5), None), Ok(Some(5)));
+    /// assert!(map.is_empty());
+    /// ```
+    #[inline]
+    #[track_caller]
+    pub fn compare_exchange(&self, key: u64, current: Option<u64>, new: Option<u64>) -> Result<Option<u64>, Option<u64>> {
+        sure(self.try_compare_exchange(key, current, new))
+    }
+
+    /// Sets a key to what `next` makes of its value, where `None` is no value, and returns what was there. If another thread
+    /// writes the key meanwhile, `next` is called again. It may call the map.
+    ///
+    /// ```
+    /// # let map = samvolip::Map::new();
+    /// let halve = |found: Option<u64>| found.map(|value| value / 2).filter(|&half| half > 0);
+    /// map.insert(7, 2);
+    /// assert_eq!(map.update(7, halve), Some(2));
+    /// assert_eq!(map.update(7, halve), Some(1));
+    /// assert_eq!(map.update(7, halve), None);
+    /// ```
+    #[track_caller]
+    pub fn update(&self, key: u64, next: impl FnMut(Option<u64>) -> Option<u64>) -> Option<u64> {
+        sure(self.try_update(key, next))
+    }
+}
+
+/// The whole map.
+impl Map {
+    /// How many keys there are. Exact; writes wait for some microseconds.
+    #[track_caller]
+    pub fn len(&self) -> usize {
+        sure(self.handle.size()) as usize
+    }
+
+    /// Whether there are no keys. As [`len`](Map::len).
+    #[track_caller]
+    pub fn is_empty(&self) -> bool {
+        self.len() == 0
+    }
+
+    /// About how many keys there are: a guess while others write, and exact while nobody does. Nobody waits.
+    #[track_caller]
+    pub fn len_estimate(&self) -> usize {
+        sure(self.handle.size_estimate()) as usize
+    }
+
+    /// Removes all keys, in one step.
+    #[track_caller]
+    pub fn clear(&self) {
+        sure(self.try_clear())
+    }
+
+    /// Removes all keys, in one step, and returns them with their values, in no order.
+    #[track_caller]
+    pub fn drain(&self) -> Vec<(u64, u64)> {
+        sure(self.try_drain())
+    }
+
+    /// All keys with their values, of one moment and in no order. Writes wait meanwhile; reads go on.
+    #[track_caller]
+    pub fn snapshot(&self) -> Vec<(u64, u64)> {
+        sure(self.try_snapshot())
+    }
+
+    /// A walk over the keys and their values, while all threads may write, this one too. Any number of walks go on at a time,
+    /// one in another or not.
+    ///
+    /// No key comes twice. Each key that the map has all the while comes. With it comes a value that it had at some moment of
+    /// the walk. After the map was given other tables, or cleared, the walk shows what there was then.
+    ///
+    /// ```
+    /// # let map = samvolip::Map::from([(1, 5), (2, 5), (3, 6)]);
+    /// let mut pairs = 0;
+    /// for (key, value) in &map {
+    ///     pairs += map.iter().filter(|&(other, same)| other != key && same == value).count();
+    /// }
+    /// assert_eq!(pairs, 2);
+    /// ```
+    #[track_caller]
+    pub fn iter(&self) -> Iter<'_> {
+        Iter { walk: sure(self.handle.walk()) }
+    }
+
+    /// A walk over the keys, as [`iter`](Map::iter).
+    #[track_caller]
+    pub fn keys(&self) -> impl FusedIterator<Item = u64> + Send + '_ {
+        self.iter().map(|(key, _)| key)
+    }
+
+    /// A walk over the values, as [`iter`](Map::iter).
+    #[track_caller]
+    pub fn values(&self) -> impl FusedIterator<Item = u64> + Send + '_ {
+        self.iter().map(|(_, value)| value)
+    }
+
+    /// Removes the keys of which `keep` says false, and returns how many.
+    ///
+    /// It walks as [`iter`](Map::iter) does. A key is removed at the very value of which `keep` said false; if another thread
+    /// writes the key before, `keep` is asked again. `keep` may call the map.
+    ///
+    /// ```
+    /// # let map = samvolip::Map::from([(1, 5), (2, 5), (3, 6)]);
+    /// assert_eq!(map.retain(|key, value| key == 1 || value == 6), 1);
+    /// assert_eq!(map.len(), 2);
+    /// ```
+    #[track_caller]
+    pub fn retain(&self, mut keep: impl FnMut(u64, u64) -> bool) -> usize {
+        let mut removed = 0;
+        for (key, mut value) in self {
+            while !keep(key, value) {
+                match self.compare_exchange(key, Some(value), None) {
+                    Err(Some(other)) => value = other,
+                    Err(None) => break,
+                    Ok(_) => {
+                        removed += 1;
+                        break;
+                    }
+                }
+            }
+        }
+        removed
+    }
+
+    /// Gives the map other tables, with room for so many keys, or for those that there are, if these are more; 0 stands for
+    /// what the options say. It needn't be called: the map does so by itself. It saves the way there before many keys come.
+    ///
+    /// Refused as [`Error::OutOfMemory`] or [`Error::Nested`].
+    pub fn renew(&self, room: usize) -> Result<(), Error> {
+        self.handle.renew(room as u64)
+    }
+
+    /// What happened to the map so far, and how large it is.
+    #[track_caller]
+    pub fn figures(&self) -> Figures {
+        Figures::of(sure(self.handle.look()))
+    }
+}
+
+/// The calls that may be refused, each with its refusal for an answer.
+impl Map {
+    /// [`get`](Map::get), for a signal handler: refused as [`Error::Nested`].
+    #[inline]
+    pub fn try_get(&self, key: u64) -> Result<Option<u64>, Error> {
+        nowhere(self.handle.get(key), None)
+    }
+
+    /// [`insert`](Map::insert), also where there is a value. Refused as [`Error::KeyRange`], [`Error::ValueRange`],
+    /// [`Error::OutOfMemory`] or [`Error::Nested`].
+    ///
+    /// ```
+    /// use samvolip::{Error, Map, VALUE_MAX};
+    ///
+    /// let map = Map::new();
+    /// assert_eq!(map.try_insert(7, VALUE_MAX), Ok(None));
+    /// assert_eq!(map.try_insert(7, VALUE_MAX + 1), Err(Error::ValueRange));
+    /// ```
+    #[inline]
+    pub fn try_insert(&self, key: u64, value: u64) -> Result<Option<u64>, Error> {
+        self.handle.put(key, value)
+    }
+
+    /// [`insert_if_absent`](Map::insert_if_absent). Refused as [`try_insert`](Map::try_insert).
+    #[inline]
+    pub fn try_insert_if_absent(&self, key: u64, value: u64) -> Result<Option<u64>, Error> {
+        self.handle.put_if_absent(key, value)
+    }
+
+    /// [`replace`](Map::replace). Refused as [`try_insert`](Map::try_insert), but not for memory.
+    #[inline]
+    pub fn try_replace(&self, key: u64, value: u64) -> Result<Option<u64>, Error> {
+        self.handle.replace(key, value)
+    }
+
+    /// [`replace_if`](Map::replace_if). Refused as [`try_replace`](Map::try_replace).
+    #[inline]
+    pub fn try_replace_if(&self, key: u64, old: u64, value: u64) -> Result<bool, Error> {
+        self.handle.replace_if(key, old, value)
+    }
+
+    /// [`fetch_add`](Map::fetch_add). Refused as [`try_insert`](Map::try_insert), or as [`Error::SumRange`].
+    #[inline]
+    pub fn try_fetch_add(&self, key: u64, value: u64) -> Result<Option<u64>, Error> {
+        self.handle.add(key, value)
+    }
+
+    /// [`fetch_max`](Map::fetch_max). Refused as [`try_insert`](Map::try_insert).
+    #[inline]
+    pub fn try_fetch_max(&self, key: u64, value: u64) -> Result<Option<u64>, Error> {
+        self.handle.fetch_max(key, value)
+    }
+
+    /// [`fetch_min`](Map::fetch_min). Refused as [`try_insert`](Map::try_insert).
+    #[inline]
+    pub fn try_fetch_min(&self, key: u64, value: u64) -> Result<Option<u64>, Error> {
+        self.handle.fetch_min(key, value)
+    }
+
+    /// [`compare_exchange`](Map::compare_exchange). Refused as [`try_insert`](Map::try_insert).
+    #[inline]
+    pub fn try_compare_exchange(
         &self,
         key: u64,
-        next: impl FnMut(Option<u64>) -> Option<u64>,
-    ) -> Result<Option<u64>, Fault> {
-        let found = self.get(key)?;
-        update_from(found, next, |old, new| self.compare_exchange(key, old, new))
+        current: Option<u64>,
+        new: Option<u64>,
+    ) -> Result<Result<Option<u64>, Option<u64>>, Error> {
+        self.handle.compare_exchange(key, current, new)
     }
 
-    /// Puts a number at a key whose number is less, or that has none; answers what was there. Refused as
-    /// [`put`](Map::put).
-    pub fn fetch_max(&self, key: u64, number: u64) -> Result<Option<u64>, Fault> {
-        self.with(|seat| seat.fetch_max(key, number))
+    /// [`update`](Map::update). Refused as [`try_insert`](Map::try_insert).
+    pub fn try_update(&self, key: u64, mut next: impl FnMut(Option<u64>) -> Option<u64>) -> Result<Option<u64>, Error> {
+        let mut found = self.try_get(key)?;
+        loop {
+            match self.try_compare_exchange(key, found, next(found))? {
+                Ok(before) => return Ok(before),
+                Err(other) => found = other,
+            }
+        }
     }
 
-    /// Puts a number at a key whose number is greater, or that has none; answers what was there. Refused as
-    /// [`put`](Map::put).
-    pub fn fetch_min(&self, key: u64, number: u64) -> Result<Option<u64>, Fault> {
-        self.with(|seat| seat.fetch_min(key, number))
-    }
-
-    /// Puts each of these numbers at its key, one after another. Refused as [`put`](Map::put); then those before the
+    /// Sets each key to its value, one after another. Refused as [`try_insert`](Map::try_insert); then those before the
     /// refused one are in the map.
-    pub fn try_extend(&self, pairs: impl IntoIterator<Item = (u64, u64)>) -> Result<(), Fault> {
-        for (key, number) in pairs {
-            self.put(key, number)?;
+    pub fn try_extend(&self, entries: impl IntoIterator<Item = (u64, u64)>) -> Result<(), Error> {
+        for (key, value) in entries {
+            self.try_insert(key, value)?;
         }
         Ok(())
     }
 
-    /// Takes out the keys of which `keep` says false, and answers how many. A key whose number was changed after `keep` saw
-    /// it stays. Refused as [`iter`](Map::iter).
-    pub fn retain(&self, mut keep: impl FnMut(u64, u64) -> bool) -> Result<u64, Fault> {
-        let mut removed = 0;
-        for (key, number) in self.iter()? {
-            if !keep(key, number) && self.remove_if(key, number)? {
-                removed += 1;
+    /// [`clear`](Map::clear). Refused as [`Error::OutOfMemory`], since other tables take the place of the old ones, or as
+    /// [`Error::Nested`].
+    pub fn try_clear(&self) -> Result<(), Error> {
+        self.handle.clear()
+    }
+
+    /// [`drain`](Map::drain). Refused as [`try_clear`](Map::try_clear).
+    pub fn try_drain(&self) -> Result<Vec<(u64, u64)>, Error> {
+        self.handle.drain()
+    }
+
+    /// [`snapshot`](Map::snapshot). Refused as [`Error::OutOfMemory`] or [`Error::Nested`].
+    pub fn try_snapshot(&self) -> Result<Vec<(u64, u64)>, Error> {
+        let mut entries = Vec::new();
+        let mut spare = 16;
+        let mut count = self.handle.size_estimate()? as usize;
+        loop {
+            // others may add keys until it is listed
+            entries.try_reserve(count + spare).map_err(|_| Error::OutOfMemory)?;
+            match self.handle.snapshot(&mut entries)? {
+                None => return Ok(entries.into_iter().map(|entry: sys::Entry| (entry.key, entry.number)).collect()),
+                Some(more) => count = more,
             }
+            spare += count / 8;
         }
-        Ok(removed)
-    }
-
-    /// About how many keys the map has. It is a guess while others write.
-    #[inline]
-    pub fn size_estimate(&self) -> Result<u64, Fault> {
-        self.with(|seat| Ok(seat.size_estimate()))
-    }
-
-    /// How many tables the map has left behind.
-    #[inline]
-    pub fn generation(&self) -> Result<u32, Fault> {
-        self.with(|seat| Ok(seat.generation()))
-    }
-
-    /// How full the top table is, by a sample of its slots.
-    pub fn occupancy(&self) -> Result<Occupancy, Fault> {
-        self.with(|seat| Ok(seat.occupancy()))
-    }
-
-    /// A walk over the map's keys and numbers, while all threads may write it, this one too. No key is shown twice, and each
-    /// key that the map has all the while is shown.
-    ///
-    /// A thread may have any number of walks at a time, so that there may be a walk within a walk. It keeps its seat until
-    /// they were dropped.
-    ///
-    /// ```
-    /// # let map = samvolip::Map::for_keys(100, 1)?;
-    /// map.try_extend([(1, 5), (2, 5), (3, 6)])?;
-    /// let mut pairs = 0;
-    /// for (key, number) in map.iter()? {
-    ///     pairs += map.iter()?.filter(|&(other, same)| other != key && same == number).count();
-    /// }
-    /// assert_eq!(pairs, 2);
-    /// # Ok::<(), samvolip::Fault>(())
-    /// ```
-    pub fn iter(&self) -> Result<Iter<'_>, Fault> {
-        let slot = self.pool.own()?;
-        // SAFETY: this thread has claimed the slot, and nothing else is called meanwhile.
-        let cursor = unsafe { slot.seat() }.begin_walk();
-        slot.set_walks(slot.walks() + 1);
-        Ok(Iter { map: self, cursor, here: PhantomData })
-    }
-
-    /// A seat for calls without a look at the thread's words. It is another one than the thread's own, and is given back
-    /// when it is dropped. It keeps the keys as the map does.
-    ///
-    /// ```
-    /// # let map = samvolip::Map::for_keys(100, 2)?;
-    /// let mut seat = map.seat()?;
-    /// for key in 0..100 {
-    ///     seat.add(key, 1)?;
-    /// }
-    /// # Ok::<(), samvolip::Fault>(())
-    /// ```
-    pub fn seat(&self) -> Result<SeatGuard<'_>, Fault> {
-        Ok(SeatGuard { index: self.pool.claim()?, pool: &self.pool })
-    }
-
-    /// Gives this thread's seat back before the thread ends, for a thread of a pool. Its next call takes a seat again.
-    /// Refused as [`Fault::Walking`] until the thread's walks over the map were dropped.
-    pub fn give_back(&self) -> Result<(), Fault> {
-        self.pool.give_back()
-    }
-
-    /// Ends the map: what is left of it. Who has the map itself shares it with nobody, so no call is under way. The seats
-    /// that other threads have taken are taken back.
-    ///
-    /// Refused as [`Fault::OutOfMemory`]; as [`Fault::NotAllSeats`], if a seat was taken out of its guard; or as
-    /// [`Fault::Closed`], after `try_close`. The map is given back then.
-    pub fn close(self) -> Result<Ended, Unclosed> {
-        // SAFETY: the map is here, so nobody else can call it. Where it is refused, a new pool takes this one's place.
-        match unsafe { self.pool.close_all() } {
-            Ok(ended) => Ok(ended),
-            Err(Fault::Closed) => Err(Unclosed { fault: Fault::Closed, map: self }),
-            Err(fault) => {
-                let pool = Pool::of(self.pool.map(), self.pool.seats(), self.pool.take_reserve());
-                Err(Unclosed { fault, map: Map { pool, keys: self.keys } })
-            }
-        }
-    }
-
-    /// Ends a map that is shared, in an `Arc` for one: what is left of it. It waits for nobody. It is refused as
-    /// [`Fault::SeatsOut`], which says how many, while other threads or guards have seats of the map; as
-    /// [`Fault::Walking`] or [`Fault::OutOfMemory`].
-    ///
-    /// Later calls of the map are refused as [`Fault::Closed`].
-    ///
-    /// ```
-    /// use samvolip::{Fault, Map};
-    /// use std::sync::Arc;
-    /// use std::thread;
-    ///
-    /// let map = Arc::new(Map::for_keys(100, 2)?);
-    /// let other = Arc::clone(&map);
-    /// thread::spawn(move || other.put(7, 5)).join().unwrap()?;
-    /// let ended = map.try_close()?;
-    /// assert_eq!(ended.get(7)?, Some(5));
-    /// assert_eq!(map.get(7), Err(Fault::Closed));
-    /// # Ok::<(), samvolip::Fault>(())
-    /// ```
-    pub fn try_close(&self) -> Result<Ended, Fault> {
-        self.pool.give_back()?;
-        self.pool.close_unclaimed()
     }
 }
 
+/// What a read or a removal answers to a key or a value that is out of range: there is none such.
+#[inline]
+fn nowhere<T>(answer: Result<T, Error>, none: T) -> Result<T, Error> {
+    match answer {
+        Err(Error::KeyRange | Error::ValueRange) => Ok(none),
+        answer => answer,
+    }
+}
+
+impl Default for Map {
+    #[track_caller]
+    fn default() -> Map {
+        Map::new()
+    }
+}
+
+/// The keys with their values, as [`iter`](Map::iter) shows them.
 impl fmt::Debug for Map {
     fn fmt(&self, f: &mut fmt::Formatter<'_>) -> fmt::Result {
-        f.debug_struct("Map")
-            .field("seats", &self.seats())
-            .field("keys", &self.keys)
-            .finish_non_exhaustive()
+        f.debug_map().entries(self).finish()
     }
 }
 
-/// Puts each number at its key. A refusal is a panic; [`Map::try_extend`] tells it.
 impl Extend<(u64, u64)> for Map {
-    fn extend<I: IntoIterator<Item = (u64, u64)>>(&mut self, pairs: I) {
-        (&*self).extend(pairs);
+    fn extend<I: IntoIterator<Item = (u64, u64)>>(&mut self, entries: I) {
+        sure(self.try_extend(entries))
     }
 }
 
-/// Puts each number at its key. A refusal is a panic; [`Map::try_extend`] tells it.
 impl Extend<(u64, u64)> for &Map {
-    fn extend<I: IntoIterator<Item = (u64, u64)>>(&mut self, pairs: I) {
-        self.try_extend(pairs).unwrap_or_else(|fault| panic!("the map refused a put: {fault}"));
+    fn extend<I: IntoIterator<Item = (u64, u64)>>(&mut self, entries: I) {
+        sure(self.try_extend(entries))
     }
 }
 
-/// A map with room to spare for twice as many keys as there are pairs, and for twice as many threads as there are processors.
-/// A refusal is a panic; [`Map::for_keys`] and [`Map::try_extend`] tell it.
-///
 /// ```
 /// use samvolip::Map;
 ///
 /// let squares: Map = (0..100).map(|i| (i, i * i)).collect();
-/// assert_eq!(squares.get(9)?, Some(81));
-/// # Ok::<(), samvolip::Fault>(())
+/// assert_eq!(squares.get(9), Some(81));
 /// ```
 impl FromIterator<(u64, u64)> for Map {
-    fn from_iter<I: IntoIterator<Item = (u64, u64)>>(pairs: I) -> Map {
-        let pairs: Vec<_> = pairs.into_iter().collect();
-        let processors = thread::available_parallelism().map_or(4, |processors| processors.get());
-        let seats = (2 * processors).min(256) as u32;
-        let made = Map::for_keys(2 * pairs.len().max(500) as u64, seats).and_then(|map| {
-            map.try_extend(pairs)?;
-            Ok(map)
-        });
-        made.unwrap_or_else(|fault| panic!("no map of these pairs: {fault}"))
+    fn from_iter<I: IntoIterator<Item = (u64, u64)>>(entries: I) -> Map {
+        let map = Map::new();
+        sure(map.try_extend(entries));
+        map
     }
 }
 
-/// A walk of the calling thread over a map.
+impl<const N: usize> From<[(u64, u64); N]> for Map {
+    fn from(entries: [(u64, u64); N]) -> Map {
+        entries.into_iter().collect()
+    }
+}
+
+impl<'m> IntoIterator for &'m Map {
+    type Item = (u64, u64);
+    type IntoIter = Iter<'m>;
+
+    #[track_caller]
+    fn into_iter(self) -> Iter<'m> {
+        self.iter()
+    }
+}
+
+/// A walk over a map: [`Map::iter`]. It may go to another thread.
 pub struct Iter<'m> {
-    map: &'m Map,
-    cursor: sys::Cursor,
-    /// the walk is of this thread's seat, which the thread keeps until it ends, or the walk was dropped
-    here: PhantomData<*const ()>,
+    walk: sys::Walk<'m>,
 }
 
 impl Iterator for Iter<'_> {
     type Item = (u64, u64);
 
     fn next(&mut self) -> Option<(u64, u64)> {
-        let slot = self.map.pool.own().expect("the thread has its seat until the walk is dropped");
-        // SAFETY: this thread has claimed the slot, and nothing else is called meanwhile. It had the slot all the while, since
-        // it gives it back for good when it ends, and not before the walk is dropped. So its seat has begun the walk; and it
-        // wasn't renewed, since a slot lends its seat to a guard alone.
-        unsafe { slot.seat().next_shown(&mut self.cursor) }
+        sure(self.walk.next())
     }
 }
 
 impl FusedIterator for Iter<'_> {}
 
-impl Drop for Iter<'_> {
-    fn drop(&mut self) {
-        // a thread that is ending has none
-        if let Some(slot) = self.map.pool.own_if_any() {
-            slot.set_walks(slot.walks() - 1);
-        }
-    }
-}
-
 impl fmt::Debug for Iter<'_> {
     fn fmt(&self, f: &mut fmt::Formatter<'_>) -> fmt::Result {
-        f.debug_struct("Iter").field("map", self.map).finish_non_exhaustive()
-    }
-}
-
-/// A seat of a [`Map`] that the program holds itself. It is given back when it is dropped.
-pub struct SeatGuard<'m> {
-    pool: &'m Pool,
-    index: usize,
-}
-
-impl Deref for SeatGuard<'_> {
-    type Target = Seat;
-
-    #[inline]
-    fn deref(&self) -> &Seat {
-        // SAFETY: the guard has claimed the slot, and lends its seat as itself.
-        unsafe { self.pool.slot(self.index).seat_seen() }
-    }
-}
-
-impl DerefMut for SeatGuard<'_> {
-    #[inline]
-    fn deref_mut(&mut self) -> &mut Seat {
-        // SAFETY: the guard has claimed the slot, and lends its seat as itself.
-        unsafe { self.pool.slot(self.index).seat() }
-    }
-}
-
-impl Drop for SeatGuard<'_> {
-    fn drop(&mut self) {
-        self.pool.free(self.index);
-    }
-}
-
-impl fmt::Debug for SeatGuard<'_> {
-    fn fmt(&self, f: &mut fmt::Formatter<'_>) -> fmt::Result {
-        (**self).fmt(f)
+        f.debug_struct("Iter").finish_non_exhaustive()
     }
 }

@@ -1,217 +1,375 @@
-//! The functions of `samvolip.h`. To them a handle is its first word, which is all that they read.
+//! What this crate has of `samvolip_map.h`, and all of its unsafe code: the functions of C, and safe ones over them.
 
-// some of the codes are never told to this crate
-#![allow(dead_code)]
+#![allow(unsafe_code)]
 
+use crate::Error;
+use std::ffi::c_void;
+use std::marker::PhantomData;
 use std::mem::size_of;
-use std::ptr::NonNull;
+use std::ptr::{self, NonNull};
+use std::sync::Arc;
 
-/// The version of `samvolip.h` that this file tells of.
-pub const VERSION: u32 = 0x000900;
+/// The version of the header that this file tells of.
+const VERSION: u32 = 0x000900;
 
 /// The greatest key.
 pub const KEY_MAX: u64 = u64::MAX - 2;
-/// The greatest number.
+/// The greatest value.
 pub const VALUE_MAX: u64 = (1 << 60) - 1;
 
-/// The most keys that [`Shape::for_keys`](crate::Shape::for_keys) makes room for.
-pub const MOST_KEYS: u64 = 349_525;
-/// The most keys that [`Shape::for_many_keys`](crate::Shape::for_many_keys) makes room for.
-pub const MANY_KEYS: u64 = 178_956_970;
+const OK: i32 = 0;
+const ABSENT: i32 = 0;
+const PRESENT: i32 = 1;
 
-/// What [`Shape::for_many_keys`](crate::Shape::for_many_keys) makes: the least exponent, by how much
-/// each one is above the one before it, the most stripes, the reprobe limit and the chunk.
-pub const MANY_FIRST_EXPONENT: u32 = 4;
-pub const MANY_STEP: u32 = 8;
-pub const MANY_STRIPES: u32 = 16;
-pub const MANY_REPROBES: u32 = 18;
-pub const MANY_CHUNK: u32 = 256;
-
-/// The least and the greatest exponent of [`Shape::for_churn`](crate::Shape::for_churn).
-pub const CHURN_LEAST: u32 = 9;
-pub const CHURN_GREATEST: u32 = 26;
-
-/// The most slots of all tables together.
-pub const MAX_SLOTS: u64 = 1 << 30;
-
-pub const MAX_TABLES: usize = 16;
-pub const PRESENT: i32 = 1;
-
-pub const E_TABLES: i32 = -1;
-pub const E_EXPONENTS: i32 = -2;
-pub const E_FALLING: i32 = -3;
-pub const E_SEATS: i32 = -4;
-pub const E_STRIPES: i32 = -5;
-pub const E_REPROBES: i32 = -6;
-pub const E_CHUNK: i32 = -7;
 pub const E_OUT_OF_MEMORY: i32 = -8;
 pub const E_KEY_RANGE: i32 = -9;
 pub const E_VALUE_RANGE: i32 = -10;
-pub const E_WANT: i32 = -11;
-pub const E_CHANGE: i32 = -12;
-pub const E_FULL: i32 = -13;
-pub const E_CONTENDED: i32 = -14;
 pub const E_SUM_RANGE: i32 = -15;
-pub const E_NO_SEAT: i32 = -16;
-pub const E_NOT_ALL_SEATS: i32 = -17;
 pub const E_ROOM: i32 = -18;
-pub const E_LOST: i32 = -19;
 pub const E_VERSION: i32 = -20;
-pub const E_SLOTS: i32 = -21;
+pub const E_NESTED: i32 = -22;
+pub const E_OPTIONS: i32 = -23;
 
-pub const ANY: u32 = 0;
-pub const WANT_ABSENT: u32 = 1;
-pub const WANT_PRESENT: u32 = 2;
-pub const EQUAL: u32 = 3;
+pub const KEYS_SECRET: u32 = 0;
+pub const KEYS_MIXED: u32 = 1;
+pub const KEYS_AS_THEY_ARE: u32 = 2;
 
-pub const PUT: u32 = 0;
-pub const REMOVE: u32 = 1;
-pub const ADD: u32 = 2;
-
-/// The version and the sizes of the structs here, for `samvolip_open_with`.
+/// `samvolip_map`, of which only C knows what is in it.
 #[repr(C)]
-pub struct Header {
-    pub version: u32,
-    pub shape: u32,
-    pub seat: u32,
-    pub ended: u32,
-    pub reply: u32,
-    pub entry: u32,
-    pub occupancy: u32,
-    pub cursor: u32,
-}
+struct CMap([u8; 0]);
 
-pub const HEADER: Header = Header {
-    version: VERSION,
-    shape: size_of::<Shape>() as u32,
-    seat: size_of::<Handle>() as u32,
-    ended: size_of::<Handle>() as u32,
-    reply: size_of::<Reply>() as u32,
-    entry: size_of::<Entry>() as u32,
-    occupancy: size_of::<Slots>() as u32,
-    cursor: size_of::<Cursor>() as u32,
-};
-
+/// `samvolip_map_walk`, the same.
 #[repr(C)]
-pub struct Handle {
-    handle: Option<NonNull<u8>>,
-}
+struct CWalk([u8; 0]);
 
-impl Handle {
-    pub const EMPTY: Handle = Handle { handle: None };
-
-    pub fn is_empty(&self) -> bool {
-        self.handle.is_none()
-    }
-}
-
+/// `samvolip_map_options`. 0 stands for the default.
 #[repr(C)]
-pub struct Shape {
-    pub exponents: [u32; MAX_TABLES],
-    pub tables: u32,
-    pub seats: u32,
-    pub stripes: u32,
-    pub reprobes: u32,
-    pub chunk: u32,
+#[derive(Clone, Copy, Debug, Default, PartialEq, Eq)]
+pub struct Options {
+    pub room: u64,
+    pub memory: u64,
+    pub growth: u32,
+    pub threads: u32,
+    pub keys: u32,
 }
 
+/// `samvolip_map_figures`.
 #[repr(C)]
 #[derive(Default)]
-pub struct Reply {
-    pub before: u64,
-    pub had: u32,
-    pub matched: u32,
+pub struct Figures {
+    pub renewals: u64,
+    pub refused: u64,
+    pub write_stop: u64,
+    pub read_stop: u64,
+    pub all_stops: u64,
+    pub slots: u64,
+    pub keys: u64,
+    pub own_threads: u64,
 }
 
+/// `samvolip_reply`.
 #[repr(C)]
-#[derive(Clone, Default)]
+#[derive(Default)]
+struct Reply {
+    before: u64,
+    had: u32,
+    matched: u32,
+}
+
+/// `samvolip_entry`.
+#[repr(C)]
+#[derive(Clone, Copy, Default)]
 pub struct Entry {
     pub key: u64,
     pub number: u64,
 }
 
-/// How full a map is.
-#[repr(C)]
-#[derive(Default)]
-pub struct Slots {
-    pub taken: u32,
-    pub looked: u32,
-    pub is_last: u32,
-}
-
-/// Where a walk is. It is begun and taken on by one seat, and on one map.
-#[repr(C)]
-#[derive(Debug, Default)]
-pub struct Cursor {
-    first: u32,
-    table: u32,
-    slot: usize,
-    is_over: u32,
-}
-
 extern "C" {
-    pub fn samvolip_open_with(
-        header: *const Header,
-        shape: *const Shape,
-        seat: *mut Handle,
+    fn samvolip_map_open_with(
+        version: u32,
+        options_size: usize,
+        figures_size: usize,
+        options: *const Options,
+        map: *mut *mut CMap,
     ) -> i32;
-    pub fn samvolip_split(seat: *mut Handle, other: *mut Handle) -> i32;
-    pub fn samvolip_join(seat: *mut Handle, other: *mut Handle) -> i32;
-    pub fn samvolip_settle(seat: *mut Handle, size: *mut u64) -> i32;
-    pub fn samvolip_entries(
-        seat: *mut Handle,
-        entries: *mut Entry,
-        room: usize,
-        count: *mut u64,
-    ) -> i32;
-    pub fn samvolip_renew(seat: *mut Handle, shape: *const Shape) -> i32;
-    pub fn samvolip_close(seat: *mut Handle, ended: *mut Handle) -> i32;
-    pub fn samvolip_free_open(seat: *mut Handle);
-    pub fn samvolip_get(seat: *mut Handle, key: u64, number: *mut u64) -> i32;
-    pub fn samvolip_put_if_match(
-        seat: *mut Handle,
+    fn samvolip_map_free(map: *mut CMap);
+    fn samvolip_map_get(map: *mut CMap, key: u64, number: *mut u64) -> i32;
+    fn samvolip_map_contains(map: *mut CMap, key: u64) -> i32;
+    fn samvolip_map_put(map: *mut CMap, key: u64, number: u64, before: *mut u64) -> i32;
+    fn samvolip_map_put_if_absent(map: *mut CMap, key: u64, number: u64, before: *mut u64) -> i32;
+    fn samvolip_map_fetch_max(map: *mut CMap, key: u64, number: u64, before: *mut u64) -> i32;
+    fn samvolip_map_fetch_min(map: *mut CMap, key: u64, number: u64, before: *mut u64) -> i32;
+    fn samvolip_map_add(map: *mut CMap, key: u64, number: u64, before: *mut u64) -> i32;
+    fn samvolip_map_replace(map: *mut CMap, key: u64, number: u64, before: *mut u64) -> i32;
+    fn samvolip_map_replace_if(map: *mut CMap, key: u64, old: u64, number: u64) -> i32;
+    fn samvolip_map_remove(map: *mut CMap, key: u64, before: *mut u64) -> i32;
+    fn samvolip_map_remove_if(map: *mut CMap, key: u64, number: u64) -> i32;
+    fn samvolip_map_compare_exchange(
+        map: *mut CMap,
         key: u64,
-        want: u32,
-        old: u64,
-        change: u32,
-        number: u64,
-        tries: u32,
+        expected: *const u64,
+        next: *const u64,
         reply: *mut Reply,
     ) -> i32;
-    pub fn samvolip_try_put(
-        seat: *mut Handle,
+    fn samvolip_map_size(map: *mut CMap, size: *mut u64) -> i32;
+    fn samvolip_map_size_estimate(map: *mut CMap, size: *mut u64) -> i32;
+    fn samvolip_map_clear(
+        map: *mut CMap,
+        visit: Option<extern "C" fn(context: *mut c_void, key: u64, number: u64)>,
+        context: *mut c_void,
+    ) -> i32;
+    fn samvolip_map_snapshot(map: *mut CMap, entries: *mut Entry, room: usize, count: *mut usize) -> i32;
+    fn samvolip_map_renew(map: *mut CMap, room: u64) -> i32;
+    fn samvolip_map_look(map: *mut CMap, figures: *mut Figures) -> i32;
+    fn samvolip_map_walk_begin(map: *mut CMap, walk: *mut *mut CWalk) -> i32;
+    fn samvolip_map_walk_next(walk: *mut CWalk, key: *mut u64, number: *mut u64) -> i32;
+    fn samvolip_map_walk_end(walk: *mut CWalk);
+}
+
+/// Frees a map when its last handle goes.
+struct Owner(NonNull<CMap>);
+
+// SAFETY: any thread may free a map.
+unsafe impl Send for Owner {}
+// SAFETY: an owner can't be called.
+unsafe impl Sync for Owner {}
+
+impl Drop for Owner {
+    fn drop(&mut self) {
+        // SAFETY: no handle is left, and a walk borrows one; so all calls have ended.
+        unsafe { samvolip_map_free(self.0.as_ptr()) }
+    }
+}
+
+/// An open map. It has the address of C's map beside the owner, so that a call needn't look there.
+#[derive(Clone)]
+pub struct Handle {
+    map: NonNull<CMap>,
+    _owner: Arc<Owner>,
+}
+
+// SAFETY: any thread may call a map.
+unsafe impl Send for Handle {}
+// SAFETY: so may many at a time.
+unsafe impl Sync for Handle {}
+
+impl Handle {
+    pub fn open(options: &Options) -> Result<Handle, Error> {
+        let mut map = ptr::null_mut();
+        // SAFETY: the version and the sizes are those of this file.
+        let code = unsafe { samvolip_map_open_with(VERSION, size_of::<Options>(), size_of::<Figures>(), options, &mut map) };
+        made(code)?;
+        let map = NonNull::new(map).expect("an open map has an address");
+        Ok(Handle { map, _owner: Arc::new(Owner(map)) })
+    }
+
+    /// Makes a call. The map is open, since there is a handle, and any thread may call it.
+    #[inline]
+    fn call<T>(&self, call: impl FnOnce(*mut CMap) -> T) -> T {
+        call(self.map.as_ptr())
+    }
+
+    #[inline]
+    pub fn get(&self, key: u64) -> Result<Option<u64>, Error> {
+        // SAFETY: see `call`; what is written goes to a number.
+        found(|number| self.call(|map| unsafe { samvolip_map_get(map, key, number) }))
+    }
+
+    #[inline]
+    pub fn contains(&self, key: u64) -> Result<bool, Error> {
+        // SAFETY: see `call`.
+        is_so(self.call(|map| unsafe { samvolip_map_contains(map, key) }))
+    }
+
+    #[inline]
+    pub fn put(&self, key: u64, number: u64) -> Result<Option<u64>, Error> {
+        // SAFETY: as for `get`.
+        found(|before| self.call(|map| unsafe { samvolip_map_put(map, key, number, before) }))
+    }
+
+    #[inline]
+    pub fn put_if_absent(&self, key: u64, number: u64) -> Result<Option<u64>, Error> {
+        // SAFETY: as for `get`.
+        found(|before| self.call(|map| unsafe { samvolip_map_put_if_absent(map, key, number, before) }))
+    }
+
+    #[inline]
+    pub fn fetch_max(&self, key: u64, number: u64) -> Result<Option<u64>, Error> {
+        // SAFETY: as for `get`.
+        found(|before| self.call(|map| unsafe { samvolip_map_fetch_max(map, key, number, before) }))
+    }
+
+    #[inline]
+    pub fn fetch_min(&self, key: u64, number: u64) -> Result<Option<u64>, Error> {
+        // SAFETY: as for `get`.
+        found(|before| self.call(|map| unsafe { samvolip_map_fetch_min(map, key, number, before) }))
+    }
+
+    #[inline]
+    pub fn add(&self, key: u64, number: u64) -> Result<Option<u64>, Error> {
+        // SAFETY: as for `get`.
+        found(|before| self.call(|map| unsafe { samvolip_map_add(map, key, number, before) }))
+    }
+
+    #[inline]
+    pub fn replace(&self, key: u64, number: u64) -> Result<Option<u64>, Error> {
+        // SAFETY: as for `get`.
+        found(|before| self.call(|map| unsafe { samvolip_map_replace(map, key, number, before) }))
+    }
+
+    #[inline]
+    pub fn replace_if(&self, key: u64, old: u64, number: u64) -> Result<bool, Error> {
+        // SAFETY: see `call`.
+        is_so(self.call(|map| unsafe { samvolip_map_replace_if(map, key, old, number) }))
+    }
+
+    #[inline]
+    pub fn remove(&self, key: u64) -> Result<Option<u64>, Error> {
+        // SAFETY: as for `get`.
+        found(|before| self.call(|map| unsafe { samvolip_map_remove(map, key, before) }))
+    }
+
+    #[inline]
+    pub fn remove_if(&self, key: u64, number: u64) -> Result<bool, Error> {
+        // SAFETY: see `call`.
+        is_so(self.call(|map| unsafe { samvolip_map_remove_if(map, key, number) }))
+    }
+
+    /// What was found: `Ok` if that was `expected`, so that it was exchanged, and else `Err`.
+    #[inline]
+    pub fn compare_exchange(
+        &self,
         key: u64,
-        number: u64,
-        tries: u32,
-        before: *mut u64,
-    ) -> i32;
-    pub fn samvolip_try_put_if_absent(
-        seat: *mut Handle,
-        key: u64,
-        number: u64,
-        tries: u32,
-        before: *mut u64,
-    ) -> i32;
-    pub fn samvolip_try_add(
-        seat: *mut Handle,
-        key: u64,
-        number: u64,
-        tries: u32,
-        before: *mut u64,
-    ) -> i32;
-    pub fn samvolip_try_remove(seat: *mut Handle, key: u64, tries: u32, before: *mut u64) -> i32;
-    pub fn samvolip_size_estimate(seat: *mut Handle) -> u64;
-    pub fn samvolip_generation(seat: *mut Handle) -> u32;
-    pub fn samvolip_occupancy(seat: *mut Handle, found: *mut Slots);
-    pub fn samvolip_walk(seat: *mut Handle, cursor: *mut Cursor);
-    pub fn samvolip_next(
-        seat: *mut Handle,
-        cursor: *mut Cursor,
-        key: *mut u64,
-        number: *mut u64,
-    ) -> i32;
-    pub fn samvolip_ended_size(ended: *const Handle) -> u64;
-    pub fn samvolip_ended_get(ended: *const Handle, key: u64, number: *mut u64) -> i32;
-    pub fn samvolip_ended_entries(ended: *const Handle, entries: *mut Entry, room: usize) -> i32;
-    pub fn samvolip_ended_free_open(ended: *mut Handle);
+        expected: Option<u64>,
+        next: Option<u64>,
+    ) -> Result<Result<Option<u64>, Option<u64>>, Error> {
+        let pointer = |number: &Option<u64>| number.as_ref().map_or(ptr::null(), |number| number as *const u64);
+        let (expected, next) = (pointer(&expected), pointer(&next));
+        let mut reply = Reply::default();
+        // SAFETY: see `call`; the pointers are null, or to numbers that live until it returns.
+        made(self.call(|map| unsafe { samvolip_map_compare_exchange(map, key, expected, next, &mut reply) }))?;
+        let before = (reply.had == 1).then_some(reply.before);
+        Ok(if reply.matched == 1 { Ok(before) } else { Err(before) })
+    }
+
+    pub fn size(&self) -> Result<u64, Error> {
+        let mut size = 0;
+        // SAFETY: see `call`; what is written goes to a number.
+        made(self.call(|map| unsafe { samvolip_map_size(map, &mut size) }))?;
+        Ok(size)
+    }
+
+    pub fn size_estimate(&self) -> Result<u64, Error> {
+        let mut size = 0;
+        // SAFETY: as for `size`.
+        made(self.call(|map| unsafe { samvolip_map_size_estimate(map, &mut size) }))?;
+        Ok(size)
+    }
+
+    pub fn clear(&self) -> Result<(), Error> {
+        // SAFETY: see `call`; nothing is shown to nobody.
+        made(self.call(|map| unsafe { samvolip_map_clear(map, None, ptr::null_mut()) }))
+    }
+
+    pub fn drain(&self) -> Result<Vec<(u64, u64)>, Error> {
+        extern "C" fn push(entries: *mut c_void, key: u64, number: u64) {
+            // SAFETY: it is the vector below, which nobody else has during the call. A push doesn't unwind: there are too few keys
+            // for a capacity overflow, and want of memory is an abort.
+            unsafe { &mut *entries.cast::<Vec<(u64, u64)>>() }.push((key, number));
+        }
+        let mut entries = Vec::new();
+        let context: *mut Vec<_> = &mut entries;
+        // SAFETY: see `call`; `push` is called in it alone, with this vector.
+        made(self.call(|map| unsafe { samvolip_map_clear(map, Some(push), context.cast()) }))?;
+        Ok(entries)
+    }
+
+    /// All entries, if the vector has room for them; else how many there are, and the vector is empty.
+    pub fn snapshot(&self, entries: &mut Vec<Entry>) -> Result<Option<usize>, Error> {
+        entries.clear();
+        let mut count = 0;
+        // SAFETY: see `call`; the vector has so much room.
+        let code = self.call(|map| unsafe { samvolip_map_snapshot(map, entries.as_mut_ptr(), entries.capacity(), &mut count) });
+        if code == E_ROOM {
+            return Ok(Some(count));
+        }
+        made(code)?;
+        // SAFETY: so many entries were written, and there was room for them.
+        unsafe { entries.set_len(count) };
+        Ok(None)
+    }
+
+    pub fn renew(&self, room: u64) -> Result<(), Error> {
+        // SAFETY: see `call`.
+        made(self.call(|map| unsafe { samvolip_map_renew(map, room) }))
+    }
+
+    pub fn look(&self) -> Result<Figures, Error> {
+        let mut figures = Figures::default();
+        // SAFETY: see `call`; what is written goes to the figures.
+        made(self.call(|map| unsafe { samvolip_map_look(map, &mut figures) }))?;
+        Ok(figures)
+    }
+
+    pub fn walk(&self) -> Result<Walk<'_>, Error> {
+        let mut walk = ptr::null_mut();
+        // SAFETY: see `call`; what is written goes to a pointer.
+        made(self.call(|map| unsafe { samvolip_map_walk_begin(map, &mut walk) }))?;
+        Ok(Walk { walk: NonNull::new(walk).expect("a walk has an address"), map: PhantomData })
+    }
+}
+
+/// A walk over a map. It borrows a handle, so that the map stays open.
+pub struct Walk<'m> {
+    walk: NonNull<CWalk>,
+    map: PhantomData<&'m Handle>,
+}
+
+// SAFETY: a walk may be taken on by any thread, by one at a time.
+unsafe impl Send for Walk<'_> {}
+// SAFETY: whatever reaches C takes the walk by `&mut`.
+unsafe impl Sync for Walk<'_> {}
+
+impl Walk<'_> {
+    #[inline]
+    pub fn next(&mut self) -> Result<Option<(u64, u64)>, Error> {
+        let (mut key, mut number) = (0, 0);
+        // SAFETY: the walk goes on until it is dropped, and nobody else has it.
+        let code = unsafe { samvolip_map_walk_next(self.walk.as_ptr(), &mut key, &mut number) };
+        Ok(is_so(code)?.then_some((key, number)))
+    }
+}
+
+impl Drop for Walk<'_> {
+    fn drop(&mut self) {
+        // SAFETY: as for `next`, and nobody has it afterwards.
+        unsafe { samvolip_map_walk_end(self.walk.as_ptr()) }
+    }
+}
+
+/// What a call found at its key: it wrote that, and answered whether there was a number.
+#[inline]
+fn found(call: impl FnOnce(*mut u64) -> i32) -> Result<Option<u64>, Error> {
+    let mut number = 0;
+    let code = call(&mut number);
+    Ok(is_so(code)?.then_some(number))
+}
+
+/// Whether it is so, by a call's code.
+#[inline]
+fn is_so(code: i32) -> Result<bool, Error> {
+    match code {
+        PRESENT => Ok(true),
+        ABSENT => Ok(false),
+        refused => Err(Error::of_code(refused)),
+    }
+}
+
+/// Whether a call was made, by its code.
+#[inline]
+fn made(code: i32) -> Result<(), Error> {
+    match code {
+        OK => Ok(()),
+        refused => Err(Error::of_code(refused)),
+    }
 }

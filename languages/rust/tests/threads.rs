@@ -1,349 +1,508 @@
-//! Seats that the program holds itself: four threads, each call, and refusals.
+//! Many threads: they add and renew with exact sums, come and go, are more than the map has ways for, hand work around, and
+//! outlive maps.
 
-use samvolip::{Change, Fault, Keys, Reply, Seat, Shape, Want, KEY_MAX, VALUE_MAX};
-use std::error::Error;
+use samvolip::{Error, Keys, Map, Options};
+use std::collections::BTreeMap;
+use std::sync::atomic::{AtomicBool, AtomicU64, Ordering};
+use std::sync::mpsc::{channel, Receiver, Sender};
+use std::sync::{Arc, Barrier, Mutex, OnceLock};
 use std::thread;
 
+/// Runs this in so many threads at once, with a number for each, and waits until they have ended.
+fn in_threads(count: u64, work: impl Fn(u64) + Sync) {
+    let (work, start) = (&work, &Barrier::new(count as usize));
+    thread::scope(|scope| {
+        let begin = move |number| {
+            start.wait();
+            work(number)
+        };
+        let threads: Vec<_> = (0..count).map(|number| scope.spawn(move || begin(number))).collect();
+        threads.into_iter().for_each(|thread| thread.join().unwrap());
+    });
+}
+
+/// Lets others run until the work is done, whatever becomes of it.
+fn beside(others: impl Fn(&AtomicBool) + Sync, work: impl FnOnce()) {
+    struct Ends<'f>(&'f AtomicBool);
+    impl Drop for Ends<'_> {
+        fn drop(&mut self) {
+            self.0.store(true, Ordering::Relaxed);
+        }
+    }
+    let is_over = AtomicBool::new(false);
+    thread::scope(|scope| {
+        let other = scope.spawn(|| others(&is_over));
+        let ends = Ends(&is_over);
+        work();
+        drop(ends);
+        other.join().unwrap();
+    });
+}
+
+fn small() -> Map {
+    Map::with_options(Options::new().room(21).growth(2)).unwrap()
+}
+
 #[test]
-fn four_threads_add() {
-    let shape = Shape {
-        exponents: vec![4, 6, 8, 10, 12],
-        stripes: 2,
-        ..Shape::for_keys(1000, 4).unwrap()
-    };
-    let mut first = Seat::open(&shape).unwrap();
-    let mut seats: Vec<Seat> = (0..3).map(|_| first.split().unwrap()).collect();
-    assert_eq!(first.split().err(), Some(Fault::NoSeat));
-    seats.push(first);
-    let workers: Vec<_> = seats
-        .into_iter()
-        .enumerate()
-        .map(|(number, mut seat)| {
-            thread::spawn(move || {
-                for i in 0..50_000 {
-                    seat.add((i * 7 + number as u64) % 1000, 1).unwrap();
-                    assert!(seat.get(i % 1000).is_ok());
+fn eight_threads_and_growth() {
+    for keys in [Keys::Secret, Keys::Mixed, Keys::AsTheyAre] {
+        // keys as they are that share their low bits would be slow
+        let step = if keys == Keys::AsTheyAre { 1 } else { 65_536 };
+        let map = Map::with_options(Options::new().room(21).growth(2).keys(keys)).unwrap();
+        in_threads(8, |number| {
+            for i in 0..20_000 {
+                let key = (i * 7 + number * 625) % 5000 * step;
+                map.fetch_add(key, 1);
+                assert!(map.contains_key(key));
+                if i % 10_000 == 0 {
+                    let shown: BTreeMap<_, _> = map.iter().collect();
+                    assert!(shown.keys().all(|key| key % step == 0 && *key < 5000 * step));
                 }
-                seat
-            })
-        })
-        .collect();
-    let mut seats: Vec<Seat> = workers.into_iter().map(|worker| worker.join().unwrap()).collect();
-    let mut first = seats.pop().unwrap();
-    assert_eq!(first.walk().count(), 1000);
-    let refused = first.close().unwrap_err();
-    assert_eq!(refused.fault, Fault::NotAllSeats);
-    let mut first = refused.seat;
-    for seat in seats {
-        first.join(seat).unwrap();
-    }
-    let ended = first.close().unwrap();
-    assert_eq!(ended.size(), 1000);
-    let entries = ended.entries().unwrap();
-    assert_eq!(entries.iter().map(|entry| entry.1).sum::<u64>(), 200_000);
-    assert_eq!(ended.get(3).unwrap(), Some(entries[3].1));
-}
-
-#[test]
-fn calls_and_refusals() {
-    let mut seat = Seat::open(&Shape::for_keys(10, 1).unwrap()).unwrap();
-    assert_eq!(seat.put(1, 2), Ok(None));
-    assert_eq!(seat.put_if_absent(1, 3), Ok(Some(2)));
-    assert_eq!(seat.replace(1, 4), Ok(Some(2)));
-    assert_eq!(seat.replace_if(1, 2, 5), Ok(false));
-    assert_eq!(seat.replace_if(1, 4, 5), Ok(true));
-    assert_eq!(seat.size_estimate(), 1);
-    assert_eq!(seat.remove_if(1, 4), Ok(false));
-    assert_eq!(seat.remove(1), Ok(Some(5)));
-    assert_eq!(seat.get(1), Ok(None));
-    assert_eq!(seat.get(u64::MAX), Err(Fault::KeyRange));
-    assert_eq!(seat.put(1, u64::MAX), Err(Fault::ValueRange));
-    let added = seat.put_if_match(1, Want::Present, Change::Add(1), 1).unwrap();
-    assert!(!added.matched && added.before.is_none());
-    let other = Seat::open(&Shape::for_keys(10, 1).unwrap()).unwrap();
-    let refused = seat.join(other).unwrap_err();
-    assert_eq!(refused.fault, Fault::OtherMap);
-    assert_eq!(refused.to_string(), "a seat of another map");
-    assert_eq!(refused.source().unwrap().to_string(), "a seat of another map");
-    assert_eq!(refused.seat.close().unwrap().size(), 0);
-    assert!(Shape::for_keys(1 << 20, 1).is_none());
-    assert!(Shape::for_many_keys(1 << 28, 1).is_none());
-    assert!(Shape::for_churn((1 << 25) + 1, 0, 1).is_none());
-    assert!(Shape::for_churn(0, 715_827_884, 1).is_none());
-    assert!(Shape::for_churn(u64::MAX, u64::MAX, 1).is_none());
-    let falling = Shape { exponents: vec![5, 4], ..Shape::for_keys(10, 1).unwrap() };
-    assert_eq!(Seat::open(&falling).err(), Some(Fault::Falling));
-    let too_large = Shape { exponents: vec![2, 28, 28, 28, 28], ..falling };
-    assert_eq!(Seat::open(&too_large).err(), Some(Fault::Slots));
-}
-
-#[test]
-fn shapes_for_keys() {
-    for (most, exponents) in [
-        (0, vec![2, 5]),
-        (21, vec![2, 5]),
-        (22, vec![3, 6]),
-        (349_525, vec![16, 19]),
-    ] {
-        assert_eq!(Shape::for_keys(most, 3).unwrap().exponents, exponents, "for {most} keys");
-    }
-    for (most, exponents) in [
-        (21, vec![5]),
-        (22, vec![6]),
-        (1365, vec![11]),
-        (1366, vec![4, 12]),
-        (1_000_000, vec![5, 13, 21]),
-        (44_739_243, vec![10, 18, 26]),
-        (44_739_244, vec![11, 19, 27]),
-        (178_956_970, vec![4, 12, 20, 28]),
-    ] {
-        let shape = Shape::for_many_keys(most, 17).unwrap();
-        assert_eq!(shape.exponents, exponents, "for {most} keys");
-        assert_eq!((shape.seats, shape.stripes), (17, 16));
-        assert_eq!((shape.reprobes, shape.chunk), (18, 256));
-    }
-}
-
-#[test]
-fn shapes_for_churn() {
-    for (live, ever, exponents) in [
-        (0, 0, vec![9]),
-        (1, 341, vec![9]),
-        (1, 342, vec![9; 2]),
-        (256, 2901, vec![9; 16]),
-        (256, 2902, vec![10; 6]),
-        (257, 682, vec![10]),
-        (10_000, 1_000_000, vec![17; 13]),
-        (1 << 25, 380_283_563, vec![26; 16]),
-        (0, 715_827_883, vec![26; 16]),
-    ] {
-        let shape = Shape::for_churn(live, ever, 17).unwrap();
-        assert_eq!(shape.exponents, exponents, "for {live} of {ever} keys");
-        assert_eq!((shape.seats, shape.stripes), (17, 16));
-        assert_eq!((shape.reprobes, shape.chunk), (u32::MAX, 64));
-    }
-    let shape = Shape::for_churn(100, 1024, 1).unwrap();
-    let mut seat = Seat::open_with(&shape, Keys::Mixed).unwrap();
-    for key in 0..1024 {
-        if key >= 100 {
-            assert_eq!(seat.remove(key - 100), Ok(Some(key - 100)));
-        }
-        assert_eq!(seat.put(key, key), Ok(None), "key {key}");
-    }
-    assert!(seat.generation() > 0);
-}
-
-#[test]
-fn many_seats() {
-    let mut first = Seat::open(&Shape::for_many_keys(5000, 256).unwrap()).unwrap();
-    let mut seats: Vec<Seat> = (0..255).map(|_| first.split().unwrap()).collect();
-    assert_eq!(first.split().err(), Some(Fault::NoSeat));
-    for (number, seat) in seats.iter_mut().enumerate() {
-        for key in 0..20 {
-            assert_eq!(seat.put(20 * number as u64 + key, key), Ok(None));
-        }
-    }
-    for seat in seats {
-        first.join(seat).unwrap();
-    }
-    assert_eq!(first.size_estimate(), 5100);
-    assert_eq!(first.close().unwrap().size(), 5100);
-}
-
-#[test]
-fn a_map_grows() {
-    let shape = Shape {
-        exponents: vec![2, 5],
-        ..Shape::for_keys(10, 1).unwrap()
-    };
-    let mut seat = Seat::open(&shape).unwrap();
-    assert_eq!((seat.size_estimate(), seat.generation()), (0, 0));
-    for key in 0..10 {
-        assert_eq!(seat.put(key, key), Ok(None));
-    }
-    assert_eq!((seat.size_estimate(), seat.generation()), (10, 1));
-    let look = |seat: &mut Seat| {
-        let seen = seat.occupancy();
-        (seen.is_last, seen.looked, seen.taken, seen.should_renew())
-    };
-    assert_eq!(look(&mut seat), (true, 32, 10, false));
-    for key in 10..21 {
-        assert_eq!(seat.put(key, key), Ok(None));
-        assert_eq!(seat.remove(key), Ok(Some(key)));
-    }
-    assert_eq!(look(&mut seat), (true, 32, 21, false));
-    assert_eq!(seat.put(21, 1), Ok(None));
-    assert_eq!(look(&mut seat), (true, 32, 22, true));
-}
-
-/// The walks of a seat follow each other, and other calls come between; each goes over all keys.
-#[test]
-fn walks_of_a_seat() {
-    let mut seat = Seat::open(&Shape { exponents: vec![3, 6], ..Shape::for_keys(10, 1).unwrap() }).unwrap();
-    assert_eq!(seat.walk().next(), None);
-    seat.extend((0..4).map(|key| (key, key)));
-    let first: Vec<_> = seat.walk().take(2).collect();
-    let all: Vec<_> = seat.walk().collect();
-    assert_eq!((all.len(), &all[..2]), (4, &first[..]));
-    let mut walk = seat.walk();
-    assert_eq!(walk.by_ref().count(), 4);
-    assert_eq!((walk.next(), walk.next()), (None, None));
-    seat.extend((10..30).map(|key| (key, key)));
-    assert_eq!((seat.generation(), seat.walk().count()), (1, 24));
-}
-
-#[test]
-fn entries_of_all_seats() {
-    for keys in [Keys::Plain, Keys::Mixed] {
-        let mut mine = Seat::open_with(&Shape::for_keys(1000, 3).unwrap(), keys).unwrap();
-        assert_eq!(mine.entries(), Ok(vec![]));
-        let mut other = mine.split().unwrap();
-        mine.extend((0..300).map(|key| (key, key + 1)));
-        other.extend((300..1000).map(|key| (key, key + 1)));
-        assert_eq!(other.retain(|key, _| key % 2 == 0), Ok(500));
-        assert_eq!(mine.entries(), Err(Fault::NotAllSeats));
-        assert_eq!(other.entries(), Err(Fault::NotAllSeats));
-        mine.join(other).unwrap();
-        let mut entries = mine.entries().unwrap();
-        entries.sort();
-        assert!(entries.iter().copied().eq((0..1000).step_by(2).map(|key| (key, key + 1))));
-        // the map goes on
-        assert_eq!((mine.settle(), mine.remove(0)), (Ok(500), Ok(Some(1))));
-        assert_eq!(mine.split().unwrap().put(KEY_MAX, VALUE_MAX), Ok(None));
-        assert_eq!((mine.entries(), mine.size_estimate()), (Err(Fault::NotAllSeats), 500));
-    }
-}
-
-#[test]
-fn renewed() {
-    for keys in [Keys::Plain, Keys::Mixed] {
-        let small = Shape { exponents: vec![2, 5], ..Shape::for_keys(10, 2).unwrap() };
-        let mut seat = Seat::open_with(&small, keys).unwrap();
-        let mut key = 0;
-        let full = loop {
-            match seat.put(key, key + 1) {
-                Ok(_) => key += 1,
-                Err(fault) => break fault,
             }
+        });
+        let mut entries = map.snapshot();
+        entries.sort();
+        assert!(entries.into_iter().eq((0..5000).map(|i| (i * step, 32))));
+        assert!(map.figures().renewals > 0);
+    }
+}
+
+/// Keys come and go while four threads add to others: no addition is lost, and no thread sees a sum become less.
+#[test]
+fn renewals_under_load() {
+    let map = small();
+    let added = AtomicU64::new(0);
+    let add = |is_over: &AtomicBool| {
+        in_threads(4, |number| {
+            let mut seen = [0; 64];
+            for i in 0.. {
+                let key = (i * 13 + number) % 64;
+                let before = map.fetch_add(key, 1).unwrap_or(0);
+                let after = map.get(key).unwrap();
+                assert!(seen[key as usize] <= before && before < after);
+                seen[key as usize] = after;
+                if is_over.load(Ordering::Relaxed) {
+                    added.fetch_add(i + 1, Ordering::Relaxed);
+                    break;
+                }
+            }
+        });
+    };
+    beside(add, || {
+        for key in 1000..30_000 {
+            assert_eq!(map.insert(key, key), None);
+            if key % 1000 == 0 {
+                map.renew(key as usize % 3000).unwrap();
+            }
+            if key >= 1500 {
+                assert_eq!(map.remove(key - 500), Some(key - 500));
+            }
+        }
+    });
+    assert!(map.figures().renewals >= 29, "{:?}", map.figures());
+    assert_eq!(map.retain(|key, _| key < 64), 500);
+    assert_eq!((map.len(), map.values().sum()), (64, added.into_inner()));
+}
+
+/// A snapshot is of one moment: who adds to one key and then to another is at most one ahead with the first.
+#[test]
+fn snapshots_beside_writers() {
+    let map: Map = (0..8).map(|key| (key, 0)).collect();
+    let write = |is_over: &AtomicBool| {
+        in_threads(4, |number| {
+            for key in (1000 + number..).step_by(4) {
+                map.fetch_add(2 * number, 1);
+                map.fetch_add(2 * number + 1, 1);
+                map.insert(key, number);
+                map.remove(key - 100);
+                if is_over.load(Ordering::Relaxed) {
+                    break;
+                }
+            }
+        });
+    };
+    beside(write, || {
+        let mut lengths = 0;
+        for _ in 0..200 {
+            let entries: BTreeMap<_, _> = map.snapshot().into_iter().collect();
+            for number in 0..4 {
+                let (first, second) = (entries[&(2 * number)], entries[&(2 * number + 1)]);
+                assert!(first == second || first == second + 1, "{first} and {second}");
+            }
+            lengths += map.len();
+        }
+        assert!((200 * 8..=200 * 112).contains(&lengths));
+    });
+}
+
+/// What is drained, and what is left, is all that was added.
+#[test]
+fn drained_beside_writers() {
+    let map = small();
+    let total = AtomicU64::new(0);
+    let drain = |is_over: &AtomicBool| {
+        while !is_over.load(Ordering::Relaxed) {
+            let sum: u64 = map.drain().into_iter().map(|(_, value)| value).sum();
+            total.fetch_add(sum, Ordering::Relaxed);
+        }
+    };
+    beside(drain, || {
+        in_threads(4, |number| {
+            for i in 0..50_000 {
+                map.fetch_add((i * 31 + number) % 300, 1);
+            }
+        });
+    });
+    assert_eq!(total.into_inner() + map.values().sum::<u64>(), 200_000);
+}
+
+/// Each walk shows each key that is there all the while, once, though the map is renewed and others come and go.
+#[test]
+fn walks_beside_writers() {
+    let map: Map = (0..500).map(|key| (key, key)).collect();
+    let churn = |is_over: &AtomicBool| {
+        for key in 1000.. {
+            map.insert(key, key);
+            map.remove(key - 400);
+            if key % 3000 == 0 {
+                map.renew(if key % 2000 == 0 { 10_000 } else { 0 }).unwrap();
+            }
+            if is_over.load(Ordering::Relaxed) {
+                break;
+            }
+        }
+    };
+    beside(churn, || {
+        in_threads(3, |_| {
+            for _ in 0..60 {
+                let mut kept = vec![];
+                for (key, value) in &map {
+                    assert_eq!(key, value);
+                    kept.extend((key < 500).then_some(key));
+                    if key % 250 == 0 {
+                        assert!(map.keys().filter(|&key| key < 500).count() == 500);
+                    }
+                }
+                kept.sort();
+                assert!(kept.into_iter().eq(0..500));
+            }
+        });
+    });
+}
+
+/// Who retains and who adds loses no sum: a key goes at the very value of which `keep` said false last.
+#[test]
+fn retained_beside_writers() {
+    let map = small();
+    let taken = AtomicU64::new(0);
+    let retain = |is_over: &AtomicBool| {
+        while !is_over.load(Ordering::Relaxed) {
+            let mut refused = BTreeMap::new();
+            let removed = map.retain(|key, value| {
+                refused.insert(key, value);
+                value < 3 && refused.remove(&key).is_some()
+            });
+            assert_eq!(removed, refused.len());
+            taken.fetch_add(refused.into_values().sum(), Ordering::Relaxed);
+        }
+    };
+    beside(retain, || {
+        in_threads(4, |number| {
+            for i in 0..30_000 {
+                map.update((i * 31 + number) % 100, |found| Some(found.unwrap_or(0) + 1));
+            }
+        });
+    });
+    assert_eq!(map.values().sum::<u64>() + taken.into_inner(), 120_000);
+}
+
+/// Exchanges by four threads: each step up is made once.
+#[test]
+fn exchanges_by_four() {
+    let map = Map::new();
+    in_threads(4, |_| {
+        for _ in 0..10_000 {
+            let mut found = None;
+            while let Err(other) = map.compare_exchange(1, found, Some(found.unwrap_or(0) + 1)) {
+                found = other;
+            }
+        }
+    });
+    assert_eq!(map.get(1), Some(40_000));
+}
+
+#[test]
+fn three_hundred_threads() {
+    for threads in [1, 64, 240] {
+        let map = Map::with_options(Options::new().room(21).threads(threads)).unwrap();
+        in_threads(300, |number| {
+            for i in 0..100 {
+                assert_eq!(map.insert(1000 + 100 * number + i, i), None);
+                map.fetch_add(i, 1);
+                assert_eq!(map.get(1000 + 100 * number + i), Some(i));
+            }
+            assert!(map.iter().filter(|&(key, _)| key / 100 == 10 + number).count() == 100);
+        });
+        assert!((0..100).all(|key| map.get(key) == Some(300)));
+        assert_eq!(map.len(), 30_100);
+        assert!(map.figures().own_threads <= u64::from(threads));
+    }
+}
+
+#[test]
+fn threads_come_and_go() {
+    let map = Map::with_options(Options::new().room(21).threads(4)).unwrap();
+    for round in 0..200 {
+        let threads: Vec<_> = (0..8)
+            .map(|number| {
+                let map = map.clone();
+                thread::spawn(move || {
+                    map.insert(1000 + 8 * round + number, round);
+                    map.fetch_add(number, 1)
+                })
+            })
+            .collect();
+        for thread in threads {
+            assert_eq!(thread.join().unwrap(), (round > 0).then_some(round));
+        }
+        assert_eq!(map.figures().own_threads, 1, "all but this one have ended");
+    }
+    assert_eq!(map.len(), 1608);
+}
+
+/// Sixteen workers take work from one queue: each piece has maps with it, goes on by whoever takes it, and may be the last to
+/// have them.
+#[test]
+fn a_pool_hands_work_around() {
+    type Work = Box<dyn FnOnce(&Sender<Option<Piece>>) + Send>;
+    struct Piece(Work);
+    fn piece(map: Map, sums: Map, left: u64) -> Piece {
+        Piece(Box::new(move |queue| {
+            map.fetch_add(left % 7, 1);
+            let sum = sums.fetch_add(left, 1).map_or(1, |before| before + 1);
+            assert_eq!(sums.get(left).map(|now| now >= sum), Some(true));
+            match left {
+                0 => assert_eq!(map.values().sum::<u64>(), 201),
+                _ => queue.send(Some(piece(map, sums, left - 1))).unwrap(),
+            }
+        }))
+    }
+    let (queue, pieces) = channel::<Option<Piece>>();
+    let (sums, pieces) = (Map::new(), Mutex::new(pieces));
+    for _ in 0..40 {
+        queue.send(Some(piece(Map::new(), sums.clone(), 200))).unwrap();
+    }
+    let queue = Mutex::new(queue);
+    let next = || pieces.lock().unwrap().recv().unwrap();
+    in_threads(16, |_| {
+        let queue = queue.lock().unwrap().clone();
+        while let Some(Piece(work)) = next() {
+            work(&queue);
+            if sums.get(0) == Some(40) {
+                queue.send(None).unwrap();
+            }
+        }
+        queue.send(None).unwrap();
+    });
+    assert_eq!((sums.len(), sums.values().all(|value| value == 40)), (201, true));
+}
+
+/// Tasks that go from thread to thread at each rest, some in the middle of a walk, as those of an async runtime do.
+mod tasks {
+    use super::*;
+    use std::future::{poll_fn, Future};
+    use std::pin::Pin;
+    use std::task::{Context, Poll, Wake, Waker};
+
+    struct Task {
+        work: Mutex<Pin<Box<dyn Future<Output = ()> + Send>>>,
+        queue: Mutex<Sender<Arc<Task>>>,
+    }
+
+    impl Wake for Task {
+        fn wake(self: Arc<Task>) {
+            let queue = self.queue.lock().unwrap().clone();
+            queue.send(self).unwrap();
+        }
+    }
+
+    /// Lets the other tasks go on.
+    async fn rest() {
+        let mut rested = false;
+        poll_fn(|context| {
+            if rested {
+                return Poll::Ready(());
+            }
+            rested = true;
+            context.waker().wake_by_ref();
+            Poll::Pending
+        })
+        .await
+    }
+
+    async fn work(map: Map, done: Map) {
+        for i in 0..50 {
+            map.fetch_add(i, 1);
+            rest().await;
+        }
+        let mut shown = 0;
+        for (key, value) in &map {
+            assert!(value > 0);
+            shown += u64::from(key < 50);
+            if key % 10 == 0 {
+                rest().await;
+            }
+        }
+        assert_eq!(shown, 50);
+        done.fetch_add(0, 1);
+    }
+
+    fn run(pieces: &Mutex<Receiver<Arc<Task>>>, done: &Map, tasks: u64) {
+        while done.get(0) != Some(tasks) {
+            let next = pieces.lock().unwrap().try_recv();
+            match next {
+                Ok(task) => {
+                    let waker = Waker::from(Arc::clone(&task));
+                    let _ = task.work.lock().unwrap().as_mut().poll(&mut Context::from_waker(&waker));
+                }
+                Err(_) => thread::yield_now(),
+            }
+        }
+    }
+
+    #[test]
+    fn a_runtime_moves_tasks() {
+        let (map, done) = (small(), Map::new());
+        let (queue, pieces) = channel();
+        let task = |_| {
+            let work = Mutex::new(Box::pin(work(map.clone(), done.clone())) as _);
+            Arc::new(Task { work, queue: Mutex::new(queue.clone()) })
         };
-        assert_eq!(full, Fault::Full);
-        assert_eq!(seat.retain(|kept, _| kept >= key - 12), Ok(key - 12));
-        assert_eq!(seat.put(1000, 0), Err(Fault::Full));
-        assert!(seat.occupancy().should_renew());
-        let kept: Vec<_> = (key - 12..key).map(|key| (key, key + 1)).collect();
-        let entries = |seat: &mut Seat| {
-            let mut entries = seat.entries().unwrap();
-            entries.sort();
-            entries
+        let tasks: Vec<_> = (0..60).map(task).collect();
+        tasks.iter().for_each(|task| queue.send(Arc::clone(task)).unwrap());
+        let pieces = Mutex::new(pieces);
+        in_threads(6, |_| run(&pieces, &done, 60));
+        assert!(map.values().all(|value| value == 60));
+    }
+}
+
+/// A map may go before the threads that called it, and a thread may call many.
+#[test]
+fn many_maps() {
+    let (maps, given) = channel::<Map>();
+    let (answer, answers) = channel();
+    let thread = thread::spawn(move || {
+        for map in given {
+            let answered = map.fetch_add(1, 1);
+            drop(map);
+            answer.send(answered).unwrap();
+        }
+    });
+    let kept: Vec<_> = (0..20).map(|_| Map::new()).collect();
+    for _ in 0..100 {
+        maps.send(Map::new()).unwrap();
+        assert_eq!(answers.recv().unwrap(), None);
+    }
+    for round in 0..100 {
+        for map in &kept {
+            maps.send(map.clone()).unwrap();
+            assert_eq!(answers.recv().unwrap(), (round > 0).then_some(round));
+        }
+    }
+    assert!(kept.iter().all(|map| map.get(1) == Some(100) && map.figures().own_threads == 2));
+    drop(kept);
+    drop(maps);
+    thread.join().unwrap();
+}
+
+/// Threads end while maps that they called are freed, and others are made.
+#[test]
+fn maps_go_while_threads_end() {
+    for _ in 0..200 {
+        let map = Map::with_options(Options::new().room(21)).unwrap();
+        let (done, calls_done) = channel();
+        let threads: Vec<_> = (0..4)
+            .map(|key| {
+                let (map, done) = (map.clone(), done.clone());
+                thread::spawn(move || {
+                    map.fetch_add(key, 1);
+                    drop(map);
+                    done.send(()).unwrap(); // its way into the map goes back after this
+                })
+            })
+            .collect();
+        assert_eq!(calls_done.iter().take(4).count(), 4);
+        assert_eq!((map.len(), map.values().sum()), (4, 4));
+        drop(map);
+        threads.into_iter().for_each(|thread| thread.join().unwrap());
+    }
+}
+
+/// A walk goes on by another thread than began it, also when that has ended.
+#[test]
+fn walks_are_sent() {
+    let map: Map = (0..1000).map(|key| (key, key)).collect();
+    let (walk, first) = thread::scope(|scope| {
+        let begin = || {
+            let mut walk = map.iter();
+            let first = walk.next().unwrap();
+            (walk, first)
         };
+        scope.spawn(begin).join().unwrap()
+    });
+    map.renew(100_000).unwrap();
+    let mut shown = thread::scope(|scope| scope.spawn(|| walk.collect::<Vec<_>>()).join().unwrap());
+    shown.push(first);
+    shown.sort();
+    assert!(shown.into_iter().eq((0..1000).map(|key| (key, key))));
+}
 
-        // refused, it is the old map still
-        let too_small = Shape { exponents: vec![2, 3], ..small.clone() };
-        let wrong = Shape { exponents: vec![5, 4], ..small.clone() };
-        for (shape, fault) in [(too_small, Fault::Full), (wrong, Fault::Falling)] {
-            assert_eq!(seat.renew(&shape), Err(fault));
-            assert_eq!((seat.generation(), seat.put(1000, 0)), (1, Err(Fault::Full)));
-            assert_eq!(entries(&mut seat), kept);
-        }
-        let mut other = seat.split().unwrap();
-        for seat in [&mut seat, &mut other] {
-            assert_eq!(seat.renew(&small), Err(Fault::NotAllSeats));
-            assert_eq!(seat.walk().count(), 12);
-        }
-        seat.join(other).unwrap();
+static KEPT: OnceLock<Map> = OnceLock::new();
 
-        // of the same shape: the slots of the removed keys are free again
-        seat.renew(&small).unwrap();
-        assert_eq!((seat.put(1000, 0), seat.remove(1000)), (Ok(None), Ok(Some(0))));
-        assert_eq!(entries(&mut seat), kept);
+/// What a thread does as it ends: it calls a map, before or after its way into the map has gone back.
+struct LastCall;
 
-        // a greater one, with more seats
-        seat.renew(&Shape::for_many_keys(5000, 3).unwrap()).unwrap();
-        assert_eq!(entries(&mut seat), kept);
-        let mut others = [seat.split().unwrap(), seat.split().unwrap()];
-        assert_eq!(seat.split().err(), Some(Fault::NoSeat));
-        for (number, other) in others.iter_mut().enumerate() {
-            assert_eq!(other.get(key - 1), Ok(Some(key)));
-            other.extend((0..1000).map(|i| (2000 + 2 * i + number as u64, i)));
-        }
-        for other in others {
-            seat.join(other).unwrap();
-        }
-        assert_eq!(seat.settle(), Ok(2012));
-        let ended = seat.close().unwrap();
-        assert_eq!(ended.entries().unwrap()[..12], kept);
+impl Drop for LastCall {
+    fn drop(&mut self) {
+        let map = KEPT.get().unwrap();
+        map.fetch_add(1, 1);
+        map.fetch_add(map.len() as u64 + 1, 1);
     }
 }
 
-#[test]
-fn calls_that_compute() {
-    let mut seat = Seat::open(&Shape::for_keys(100, 1).unwrap()).unwrap();
-    assert_eq!(seat.or_insert(1, 5), Ok(5));
-    assert_eq!(seat.or_insert(1, 6), Ok(5));
-    assert_eq!(seat.or_insert_with(2, || 7), Ok(7));
-    assert_eq!(seat.or_insert_with(2, || unreachable!()), Ok(7));
-    assert_eq!(seat.update(1, |found| found.map(|number| number + 1)), Ok(Some(5)));
-    assert_eq!(seat.update(2, |_| None), Ok(Some(7)));
-    assert_eq!(seat.contains_key(2), Ok(false));
-    assert_eq!(seat.update(2, |_| None), Ok(None));
-    assert_eq!(seat.update(2, |_| Some(VALUE_MAX + 1)), Err(Fault::ValueRange));
-    assert_eq!(seat.fetch_max(1, 5), Ok(Some(6)));
-    assert_eq!(seat.fetch_max(1, 9), Ok(Some(6)));
-    assert_eq!(seat.fetch_min(1, 3), Ok(Some(9)));
-    assert_eq!(seat.fetch_min(2, 3), Ok(None));
-    assert_eq!((seat.get(1), seat.get(2)), (Ok(Some(3)), Ok(Some(3))));
-    let exchanged = seat.compare_exchange(1, Some(4), Some(8));
-    assert_eq!(exchanged, Ok(Reply { before: Some(3), matched: false }));
-    let exchanged = seat.compare_exchange(1, Some(3), None);
-    assert_eq!(exchanged, Ok(Reply { before: Some(3), matched: true }));
-    seat.extend((10..20).map(|key| (key, key)));
-    assert_eq!(seat.try_extend([(20, 1), (21, VALUE_MAX + 1)]), Err(Fault::ValueRange));
-    assert_eq!(seat.retain(|key, number| key % 2 == 0 || number == 3), Ok(5));
-    let entries = seat.close().unwrap().entries().unwrap();
-    assert_eq!(entries, [(2, 3), (10, 10), (12, 12), (14, 14), (16, 16), (18, 18), (20, 1)]);
-}
+thread_local!(static LAST: LastCall = const { LastCall });
 
 #[test]
-fn the_greatest_key_and_number() {
-    for keys in [Keys::Plain, Keys::Mixed] {
-        let mut seat = Seat::open_with(&Shape::for_keys(10, 1).unwrap(), keys).unwrap();
-        assert_eq!(seat.put(KEY_MAX, VALUE_MAX), Ok(None));
-        assert_eq!(seat.put(KEY_MAX + 1, 0), Err(Fault::KeyRange));
-        assert_eq!(seat.put(u64::MAX, 0), Err(Fault::KeyRange));
-        assert_eq!(seat.put(0, VALUE_MAX + 1), Err(Fault::ValueRange));
-        assert_eq!(seat.add(KEY_MAX, 1), Err(Fault::SumRange));
-        assert_eq!(seat.walk().collect::<Vec<_>>(), [(KEY_MAX, VALUE_MAX)]);
-        let ended = seat.close().unwrap();
-        assert_eq!(ended.get(KEY_MAX), Ok(Some(VALUE_MAX)));
-        assert_eq!(ended.get(KEY_MAX + 1), Err(Fault::KeyRange));
+fn calls_as_threads_end() {
+    let map = KEPT.get_or_init(small);
+    for round in 0..100 {
+        let end = move || {
+            if round % 2 == 0 {
+                LAST.with(|_| ());
+            }
+            map.fetch_add(1, 1);
+            LAST.with(|_| ());
+        };
+        thread::spawn(end).join().unwrap();
     }
+    assert_eq!((map.get(1), map.len(), map.figures().own_threads), (Some(200), 101, 1));
 }
 
+/// A map that may have no more memory refuses new keys alike by all threads, and goes on.
 #[test]
-fn shapes_that_are_refused() {
-    let good = Shape::for_keys(10, 1).unwrap();
-    for (shape, fault) in [
-        (Shape { exponents: vec![], ..good.clone() }, Fault::Tables),
-        (Shape { exponents: vec![5; 17], ..good.clone() }, Fault::Tables),
-        (Shape { exponents: vec![1], ..good.clone() }, Fault::Exponents),
-        (Shape { exponents: vec![29], ..good.clone() }, Fault::Exponents),
-        (Shape { seats: 0, ..good.clone() }, Fault::Seats),
-        (Shape { seats: 257, ..good.clone() }, Fault::Seats),
-        (Shape { stripes: 257, ..good.clone() }, Fault::Stripes),
-        (Shape { reprobes: 0, ..good.clone() }, Fault::Reprobes),
-        (Shape { chunk: 5, ..good.clone() }, Fault::Chunk),
-    ] {
-        assert_eq!(Seat::open(&shape).unwrap_err(), fault);
-    }
-}
-
-/// Opens, splits and joins with `?` alone, as a program whose errors go to its callers.
-#[test]
-fn refusals_go_up() -> Result<(), Box<dyn Error + Send + Sync>> {
-    let mut first = Seat::open(&Shape::for_keys(10, 2).unwrap())?;
-    let second = first.split()?;
-    first.put(1, 2)?;
-    first.join(second)?;
-    assert_eq!(first.close()?.size(), 1);
-    Ok(())
+fn no_memory_for_many() {
+    let map = Map::with_options(Options::new().room(600).memory(1024 * 16)).unwrap();
+    let refused = AtomicU64::new(0);
+    in_threads(8, |number| {
+        for key in (0..3200).skip(number as usize).step_by(8) {
+            match map.try_insert(key, number) {
+                Ok(before) => assert_eq!(before, None),
+                Err(error) => {
+                    assert_eq!((error, map.replace(key, 0)), (Error::OutOfMemory, None));
+                    refused.fetch_add(1, Ordering::Relaxed);
+                }
+            }
+        }
+    });
+    assert_eq!((map.len(), refused.into_inner()), (1024, 3200 - 1024));
 }
