@@ -459,18 +459,18 @@ fn walks_are_sent() {
 
 static KEPT: OnceLock<Map> = OnceLock::new();
 
-/// What a thread does as it ends: it calls a map, before or after its way into the map has gone back.
-struct LastCall;
+/// What a thread does as it ends: it calls a map, and is the last to have another one.
+struct LastCall(Map);
 
 impl Drop for LastCall {
     fn drop(&mut self) {
         let map = KEPT.get().unwrap();
-        map.fetch_add(1, 1);
+        map.fetch_add(1, self.0.get(1).unwrap());
         map.fetch_add(map.len() as u64 + 1, 1);
     }
 }
 
-thread_local!(static LAST: LastCall = const { LastCall });
+thread_local!(static LAST: LastCall = LastCall(Map::from([(1, 1)])));
 
 #[test]
 fn calls_as_threads_end() {
@@ -478,14 +478,71 @@ fn calls_as_threads_end() {
     for round in 0..100 {
         let end = move || {
             if round % 2 == 0 {
-                LAST.with(|_| ());
+                LAST.with(|last| last.0.insert(2, 1));
             }
             map.fetch_add(1, 1);
-            LAST.with(|_| ());
+            LAST.with(|last| last.0.insert(3, 1));
         };
         thread::spawn(end).join().unwrap();
     }
     assert_eq!((map.get(1), map.len(), map.figures().own_threads), (Some(200), 101, 1));
+}
+
+/// A handler that interrupts its thread in the middle of a call is refused; elsewhere it may call.
+mod signals {
+    use super::*;
+    use std::time::{Duration, Instant};
+
+    const SIGUSR1: i32 = 10;
+
+    extern "C" {
+        fn signal(number: i32, handler: extern "C" fn(i32)) -> usize;
+        fn pthread_self() -> usize;
+        fn pthread_kill(thread: usize, number: i32) -> i32;
+    }
+
+    static MAP: OnceLock<Map> = OnceLock::new();
+    static MADE: AtomicU64 = AtomicU64::new(0);
+    static NESTED: AtomicU64 = AtomicU64::new(0);
+
+    extern "C" fn handle(_: i32) {
+        let map = MAP.get().unwrap();
+        match (map.try_get(1), map.try_fetch_add(2, 1)) {
+            (Ok(found), Ok(_)) => MADE.fetch_add(u64::from(found == Some(5)), Ordering::Relaxed),
+            (Err(Error::Nested), Err(Error::Nested)) => NESTED.fetch_add(1, Ordering::Relaxed),
+            answers => panic!("{answers:?}"),
+        };
+    }
+
+    #[test]
+    fn handlers_call() {
+        let map = MAP.get_or_init(|| Map::from([(1, 5), (2, 0)]));
+        let (caller, told) = channel();
+        // SAFETY: what the handler calls may be called by a handler.
+        unsafe { signal(SIGUSR1, handle) };
+        let call = |is_over: &AtomicBool| {
+            map.fetch_add(3, 1); // a first call takes memory, which a handler may not
+                                 // SAFETY: any thread may ask.
+            caller.send(unsafe { pthread_self() }).unwrap();
+            while !is_over.load(Ordering::Relaxed) {
+                map.fetch_add(3, 1);
+            }
+        };
+        beside(call, || {
+            let (caller, end) = (told.recv().unwrap(), Instant::now() + Duration::from_secs(5));
+            while NESTED.load(Ordering::Relaxed) == 0 || MADE.load(Ordering::Relaxed) == 0 {
+                // SAFETY: the thread goes on until this work is done.
+                assert_eq!(unsafe { pthread_kill(caller, SIGUSR1) }, 0);
+                thread::yield_now();
+                // the thread sanitizer keeps signals back until calls of C have ended
+                assert!(Instant::now() < end || std::env::var_os("TSAN_OPTIONS").is_some());
+                if Instant::now() >= end {
+                    break;
+                }
+            }
+        });
+        assert_eq!(map.get(2), Some(MADE.load(Ordering::Relaxed)));
+    }
 }
 
 /// A map that may have no more memory refuses new keys alike by all threads, and goes on.
