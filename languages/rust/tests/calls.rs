@@ -3,6 +3,7 @@
 use samvolip::{key_of, Error, Keys, Map, Options, KEY_MAX, VALUE_MAX};
 use std::collections::hash_map::RandomState;
 use std::collections::BTreeMap;
+use std::hash::{BuildHasherDefault, Hasher};
 use std::panic::{catch_unwind, RefUnwindSafe, UnwindSafe};
 
 /// The text of the panic that this ends in.
@@ -88,6 +89,26 @@ fn the_whole_map() {
     assert_eq!(map.snapshot(), []);
 }
 
+/// A key that is written after `keep` saw it is asked about again, and one that is gone isn't.
+#[test]
+fn retained_while_keys_change() {
+    let map: Map = (0..100).map(|key| (key, 0)).collect();
+    let mut asked = 0;
+    let removed = map.retain(|key, value| {
+        asked += 1;
+        match key % 4 {
+            0 => map.insert(key, 5) == Some(5),
+            1 => value < 3 && map.fetch_add(key, 1).is_none(),
+            2 => map.remove(key).is_none(),
+            _ => true,
+        }
+    });
+    assert_eq!((removed, asked), (25, 25 * (2 + 4 + 1 + 1)));
+    assert!(sorted(&map)
+        .into_iter()
+        .eq((0..100).filter(|key| key % 4 % 3 == 0).map(|key| (key, if key % 4 == 0 { 5 } else { 0 }))));
+}
+
 #[test]
 fn maps_of_entries() {
     let squares: Map = (0..5000).map(|i| (i, i * i)).collect();
@@ -150,6 +171,20 @@ fn all_keys_are_keys() {
         assert_eq!(sorted(&map), shown);
         assert_eq!(odd.map(|key| map.remove(key)), odd.map(|key| Some(key % 1000)));
     }
+}
+
+/// In which order two maps list the same keys says what becomes of keys.
+#[test]
+fn orders_of_keys() {
+    let listed = |keys| {
+        let map = Map::with_options(Options::new().keys(keys)).unwrap();
+        map.try_extend((0..100).map(|key| (key, 0))).unwrap();
+        map.keys().collect::<Vec<_>>()
+    };
+    assert!(listed(Keys::AsTheyAre).into_iter().eq(0..100));
+    assert_eq!(listed(Keys::Mixed), listed(Keys::Mixed));
+    assert_ne!(listed(Keys::Mixed), listed(Keys::AsTheyAre));
+    assert_ne!(listed(Keys::Secret), listed(Keys::Secret));
 }
 
 #[test]
@@ -322,6 +357,22 @@ fn keys_of_words() {
     assert_eq!(map.get(key_of(&hasher, "word 7")), Some(7));
     assert_eq!(map.get(key_of(&hasher, "word 1000")), None);
     assert_ne!(key_of(&hasher, "word"), key_of(&RandomState::new(), "word"));
+    // a hash that is a number's own
+    let plain = BuildHasherDefault::<Own>::default();
+    assert_eq!([0, 7, KEY_MAX, KEY_MAX + 1, u64::MAX].map(|hash| key_of(&plain, &hash)), [0, 7, KEY_MAX, 0, 1]);
+}
+
+#[derive(Default)]
+struct Own(u64);
+
+impl Hasher for Own {
+    fn write(&mut self, _: &[u8]) {}
+    fn write_u64(&mut self, number: u64) {
+        self.0 = number;
+    }
+    fn finish(&self) -> u64 {
+        self.0
+    }
 }
 
 #[test]

@@ -135,6 +135,33 @@ fn snapshots_beside_writers() {
     });
 }
 
+/// A snapshot of a map that grows has, of each thread's keys, all up to some one.
+#[test]
+fn snapshots_of_a_map_that_grows() {
+    let map = small();
+    let grow =
+        |_: &AtomicBool| in_threads(3, |number| (0..40_000).for_each(|i| assert_eq!(map.insert(3 * i + number, i), None)));
+    beside(grow, || {
+        let (mut sizes, mut lists) = ([0; 3], 0);
+        while sizes.iter().sum::<u64>() < 120_000 {
+            let (before, entries) = (map.len(), map.snapshot());
+            assert!(before <= entries.len() && entries.len() <= map.len());
+            let (mut counts, mut greatest) = ([0; 3], [0; 3]);
+            for (key, value) in entries {
+                let number = (key % 3) as usize;
+                counts[number] += 1;
+                greatest[number] = value.max(greatest[number]);
+            }
+            for number in 0..3 {
+                assert!(counts[number] == 0 || counts[number] == greatest[number] + 1, "{counts:?}, {greatest:?}");
+                assert!(sizes[number] <= counts[number]);
+            }
+            (sizes, lists) = (counts, lists + 1);
+        }
+        assert!(lists > 1);
+    });
+}
+
 /// What is drained, and what is left, is all that was added.
 #[test]
 fn drained_beside_writers() {
