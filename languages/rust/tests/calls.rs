@@ -137,6 +137,24 @@ fn a_clone_is_a_handle() {
     assert_eq!(copy.get(1), Some(5));
 }
 
+/// Five hundred maps of a MiB each, one after another, don't take 500 MiB.
+#[test]
+fn maps_are_freed() {
+    let resident = || {
+        let told = std::fs::read_to_string("/proc/self/statm").unwrap();
+        told.split(' ').nth(1).unwrap().parse::<u64>().unwrap() / 256
+    };
+    let before = resident();
+    for _ in 0..500 {
+        let map = Map::with_options(Options::new().room(40_000)).unwrap();
+        map.try_extend((0..1000).map(|key| (key, key))).unwrap();
+        let other = map.clone();
+        drop(map);
+        assert_eq!(other.len_estimate(), 1000);
+    }
+    assert!(resident() < before + 200, "{before} MiB before and {} after", resident());
+}
+
 #[test]
 fn the_greatest_key_and_value() {
     for keys in [Keys::Secret, Keys::Mixed, Keys::AsTheyAre] {
