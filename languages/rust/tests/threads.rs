@@ -89,7 +89,8 @@ fn renewals_under_load() {
         });
     };
     beside(add, || {
-        for key in 1000..30_000 {
+        // until all threads have added to all keys
+        for key in (1000..).take_while(|&key| key < 30_000 || map.len_estimate() < 564) {
             assert_eq!(map.insert(key, key), None);
             if key % 1000 == 0 {
                 map.renew(key as usize % 3000).unwrap();
@@ -142,7 +143,7 @@ fn snapshots_of_a_map_that_grows() {
     let grow =
         |_: &AtomicBool| in_threads(3, |number| (0..40_000).for_each(|i| assert_eq!(map.insert(3 * i + number, i), None)));
     beside(grow, || {
-        let (mut sizes, mut lists) = ([0; 3], 0);
+        let mut sizes = [0; 3];
         while sizes.iter().sum::<u64>() < 120_000 {
             let (before, entries) = (map.len(), map.snapshot());
             assert!(before <= entries.len() && entries.len() <= map.len());
@@ -156,9 +157,8 @@ fn snapshots_of_a_map_that_grows() {
                 assert!(counts[number] == 0 || counts[number] == greatest[number] + 1, "{counts:?}, {greatest:?}");
                 assert!(sizes[number] <= counts[number]);
             }
-            (sizes, lists) = (counts, lists + 1);
+            sizes = counts;
         }
-        assert!(lists > 1);
     });
 }
 
@@ -556,14 +556,15 @@ mod signals {
             }
         };
         beside(call, || {
-            let (caller, end) = (told.recv().unwrap(), Instant::now() + Duration::from_secs(5));
+            // the thread sanitizer keeps signals back until calls of C have ended
+            let keeps_back = std::env::var_os("TSAN_OPTIONS").is_some();
+            let (caller, end) = (told.recv().unwrap(), Instant::now() + Duration::from_secs(if keeps_back { 2 } else { 60 }));
             while NESTED.load(Ordering::Relaxed) == 0 || MADE.load(Ordering::Relaxed) == 0 {
                 // SAFETY: the thread goes on until this work is done.
                 assert_eq!(unsafe { pthread_kill(caller, SIGUSR1) }, 0);
                 thread::yield_now();
-                // the thread sanitizer keeps signals back until calls of C have ended
-                assert!(Instant::now() < end || std::env::var_os("TSAN_OPTIONS").is_some());
                 if Instant::now() >= end {
+                    assert!(keeps_back, "no call was interrupted");
                     break;
                 }
             }
