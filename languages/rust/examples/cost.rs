@@ -25,7 +25,7 @@ fn main() {
     let rwlock: RwLock<HashMap<u64, u64>> = RwLock::new(entries().collect());
     println!("{:28} {:>8} {:>10}", "", "1 thread", format!("{several} threads"));
     let tell = |name: &str, call: &(dyn Fn(u64) -> Option<u64> + Sync)| {
-        println!("{name:28} {:8.1} {:10.1}", cost(1, 300, 2000, call), cost(several, 10, 100_000, call));
+        println!("{name:28} {:8.1} {:10.1}", cost(1, 300, 2000, call), cost(several, 100, 20_000, call));
     };
     tell("get, Map", &|key| secret.get(key));
     tell("get, Map, keys as they are", &|key| plain.get(key));
@@ -41,26 +41,27 @@ fn main() {
     });
 }
 
-/// What one of so many threads takes for a call, while the others call: the best of so many rounds of so many calls. The keys
-/// come in no order.
+/// What one of so many threads takes for a call, while the others call: the best of so many rounds of so many calls. A round goes
+/// from the first thread's beginning to the last one's end. The keys come in no order.
 fn cost(threads: u64, rounds: usize, calls: u64, call: &(dyn Fn(u64) -> Option<u64> + Sync)) -> f64 {
-    let round = |number: u64| {
+    let start = &Barrier::new(threads as usize);
+    let round = move |number: u64| {
+        start.wait();
+        let begun = Instant::now();
         for i in number * calls..(number + 1) * calls {
             black_box(call(black_box(i * 7919 % KEYS)));
         }
+        (begun, Instant::now())
     };
-    let barrier = &Barrier::new(threads as usize);
-    let rounds_of = move |number: u64| {
-        (0..rounds).fold(f64::INFINITY, |best, _| {
-            barrier.wait();
-            let begun = Instant::now();
-            round(number);
-            barrier.wait();
-            best.min(begun.elapsed().as_nanos() as f64 / calls as f64)
-        })
+    let times: Vec<Vec<_>> = thread::scope(|scope| {
+        let work = |number| scope.spawn(move || (0..rounds).map(|_| round(number)).collect());
+        let workers: Vec<_> = (0..threads).map(work).collect();
+        workers.into_iter().map(|worker| worker.join().unwrap()).collect()
+    });
+    let length = |i: usize| {
+        let begun = times.iter().map(|times| times[i].0).min().unwrap();
+        let ended = times.iter().map(|times| times[i].1).max().unwrap();
+        (ended - begun).as_nanos() as f64 / calls as f64
     };
-    thread::scope(|scope| {
-        let workers: Vec<_> = (0..threads).map(|number| scope.spawn(move || rounds_of(number))).collect();
-        workers.into_iter().map(|worker| worker.join().unwrap()).fold(f64::INFINITY, f64::min)
-    })
+    (0..rounds).map(length).fold(f64::INFINITY, f64::min)
 }

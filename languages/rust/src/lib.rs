@@ -22,6 +22,9 @@
 //! 64 threads have a way of their own into the map ([`Options::threads`]), which they give back when they end; more than these
 //! share six, and wait for each other there.
 //!
+//! A signal handler may read, and write keys that are there. In the middle of another call of its thread it is refused. Other
+//! calls of a handler may wait for ever, as those of `malloc` in a handler may.
+//!
 //! # Larger and smaller
 //!
 //! A write that finds the map two thirds full, or far too large for its keys, puts other tables in the place of those that there

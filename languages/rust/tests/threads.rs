@@ -5,7 +5,7 @@ use samvolip::{Error, Keys, Map, Options};
 use std::collections::BTreeMap;
 use std::sync::atomic::{AtomicBool, AtomicU64, Ordering};
 use std::sync::mpsc::{channel, Receiver, Sender};
-use std::sync::{Arc, Barrier, Mutex, OnceLock};
+use std::sync::{Arc, Barrier, Mutex, MutexGuard, OnceLock};
 use std::thread;
 
 /// Runs this in so many threads at once, with a number for each, and waits until they have ended.
@@ -19,6 +19,16 @@ fn in_threads(count: u64, work: impl Fn(u64) + Sync) {
         let threads: Vec<_> = (0..count).map(|number| scope.spawn(move || begin(number))).collect();
         threads.into_iter().for_each(|thread| thread.join().unwrap());
     });
+}
+
+/// Takes a lock by turns. The thread sanitizer doesn't see how `std` lets threads wait for one.
+fn lock<T>(mutex: &Mutex<T>) -> MutexGuard<'_, T> {
+    loop {
+        match mutex.try_lock() {
+            Ok(guard) => return guard,
+            Err(_) => thread::yield_now(),
+        }
+    }
 }
 
 /// Lets others run until the work is done, whatever becomes of it.
@@ -320,9 +330,9 @@ fn a_pool_hands_work_around() {
         queue.send(Some(piece(Map::new(), sums.clone(), 200))).unwrap();
     }
     let queue = Mutex::new(queue);
-    let next = || pieces.lock().unwrap().recv().unwrap();
+    let next = || lock(&pieces).recv().unwrap();
     in_threads(16, |_| {
-        let queue = queue.lock().unwrap().clone();
+        let queue = lock(&queue).clone();
         while let Some(Piece(work)) = next() {
             work(&queue);
             if sums.get(0) == Some(40) {
@@ -348,7 +358,7 @@ mod tasks {
 
     impl Wake for Task {
         fn wake(self: Arc<Task>) {
-            let queue = self.queue.lock().unwrap().clone();
+            let queue = lock(&self.queue).clone();
             queue.send(self).unwrap();
         }
     }
@@ -386,11 +396,11 @@ mod tasks {
 
     fn run(pieces: &Mutex<Receiver<Arc<Task>>>, done: &Map, tasks: u64) {
         while done.get(0) != Some(tasks) {
-            let next = pieces.lock().unwrap().try_recv();
+            let next = lock(pieces).try_recv();
             match next {
                 Ok(task) => {
                     let waker = Waker::from(Arc::clone(&task));
-                    let _ = task.work.lock().unwrap().as_mut().poll(&mut Context::from_waker(&waker));
+                    let _ = lock(&task.work).as_mut().poll(&mut Context::from_waker(&waker));
                 }
                 Err(_) => thread::yield_now(),
             }
