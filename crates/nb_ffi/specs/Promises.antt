@@ -29,7 +29,8 @@ HasGot key found = HasCalled (λ m before after. of_map.HasGot m key before afte
 -- a write that has so many tries, and one at least
 abbrev pub HasWritten : Call → (tries : ℕ) → Outcome → (before after : HandleOf) → Type 0
 HasWritten call tries outcome =
-    HasCalled (λ m before after. of_map.HasWritten m call before after (Tries (max tries 1)) outcome)
+    HasCalled (λ m before after.
+    of_map.HasWritten m call before after (Tries (max tries 1)) outcome)
 
 -- ---- looks at the map as a whole
 

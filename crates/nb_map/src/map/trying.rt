@@ -1,9 +1,9 @@
 //! The writes of `ConcurrentMap` that wait for nobody. Each is one `put_if_match` with as many
 //! tries as its caller gives it, and is refused as contended where other seats' writes of the key
 //! came first so often. So its steps are bounded whatever other threads do, and it takes no memory.
-//! Each goes a straight way first (`straight.rt`), with its first try, which stands in its own code.
-//! Where that didn't do, it goes on by a general way, up the tables, with the tries that are left.
-//! Each call has its own copy of that, in which its condition and its change are known.
+//! Each goes a straight way first (`straight.rt`), with its first try, which stands in its own
+//! code. Where that didn't do, it goes on by a general way, up the tables, with the tries that are
+//! left. Each call has its own copy of that, in which its condition and its change are known.
 ghost use Rattle.std.specs.Prelude.{◌≤◌};
 ghost use Rattle.nb_core.specs.declared.calls.Call.TheVariants as call;
 ghost use Rattle.nb_map.specs.Maps.{IsMine};

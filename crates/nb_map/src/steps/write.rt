@@ -186,8 +186,8 @@ fn is_free(word: KeyWord, key: Key) -> bool
     !word.is(key) && word.is_empty()
 }
 
-/// Whether the key has its home slot, which was seen with this key word: it had it then; or the slot
-/// was empty, and is claimed for it, unless the table is being copied.
+/// Whether the key has its home slot, which was seen with this key word: it had it then; or the
+/// slot was empty, and is claimed for it, unless the table is being copied.
 #[inline(always)]
 fn has_home(chain: &Chain, seat: &mut ChainSeat, call: &Call, home: Slot, word: KeyWord) -> bool
     requires home { IsHomeOf chain.now call.now seat.old home }
