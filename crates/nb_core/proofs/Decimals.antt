@@ -1,5 +1,5 @@
 -- The number that digits write, one digit after another.
-use Rattle.std.proofs.Common.{◌≡◌, ◌∙◌, ℕ, ◌+◌, ◌-◌, ◌*◌, ◌^◌, ◌<◌, ◌≤◌, ◌&&◌, Bool, List, [], ◌∷◌, Option, None, Some, Ok, Err, sym, ap, refl, true, false, length, drop, get_or, arith, add-one, lt-ltb, le-ltb}
+use Rattle.std.proofs.Common.{◌≡◌, ◌∙◌, ℕ, ◌+◌, ◌-◌, ◌*◌, ◌^◌, ◌<◌, ◌≤◌, ◌&&◌, Bool, List, [], ◌∷◌, Option, None, Some, Err, sym, ap, refl, true, false, length, drop, get_or, arith, add-one, le-ltb}
 use Rattle.std.specs.Str.{all_ascii_digits}
 use Rattle.std.specs.Str.Parse.{digits_value, digits_value_after}
 use Rattle.std.specs.Char.{is_ascii_digit, digit_value}
@@ -8,7 +8,6 @@ use Rattle.std.specs.List.{list_all}
 use Rattle.std.specs.Option.{SomeIff, ok_or}
 use Rattle.std.proofs.Math.Seq.{drop-cons}
 use Rattle.std.proofs.lemmas.Bool.Decides.{nat_tests}
-use Rattle.std.proofs.lemmas.List.{drop_all}
 use Rattle.std.proofs.lemmas.Str.{digit_value_digit}
 use Rattle.nb_core.specs.Digits.{are_digits, number_read}
 use Rattle.nb_core.specs.declared.digits.DigitsFault.TheVariants.{TooLarge}
@@ -27,9 +26,6 @@ pub record HasRead (text : List ℕ) (i number : ℕ) : Type 0 where
 both : (a b : Bool) → (a && b) ≡ true → (a ≡ true) × (b ≡ true)
 both true b e = (refl, e)
 both false b e = cc
-
-pub none_read : (text : List ℕ) → are_digits text ≡ true → HasRead text 0 0
-none_read text are = record { all = are; fits = omega arith; value = refl; digits = (both _ _ are).1 }
 
 head_is :
     (text : List ℕ) (i : ℕ) → i < length text → drop i text ≡ get_or text i 0 ∷ drop (i + 1) text
@@ -63,16 +59,6 @@ module _ (text : List ℕ) (i number : ℕ) (h : HasRead text i number) (in_text
       ap (λ n. digits_value_after 10 n (drop (i + 1) text)) raised
       ∙ ap (digits_value_after 10 number) (sym (head_is text i in_text)) ∙ h.value
 
-  pub one_read :
-      (digit new : ℕ) → digit ≡ get_or text i 0 - 48 → new ≡ number * 10 + digit → new < 2 ^ 64
-      → HasRead text (i + 1) new
-  one_read digit new d n fits = record {
-    all = h.all;
-    fits = fits;
-    value = value-next digit new d n;
-    digits = (both _ _ first_and_rest).1;
-  }
-
   -- where the digits so far and one more make too large a number, all of them do
   pub too_large :
       (digit : ℕ) → digit ≡ get_or text i 0 - 48 → 2 ^ 64 ≤ number * 10 + digit
@@ -82,14 +68,6 @@ module _ (text : List ℕ) (i number : ℕ) (h : HasRead text i number) (in_text
       let past : 2 ^ 64 ≤ digits_value 10 text =
       omega (arith, large, value-next digit (number * 10 + digit) d refl, grown) in
       rw (h.all, le-ltb (digits_value 10 text) (2 ^ 64) past) refl
-
-pub all_read :
-    (text : List ℕ) (i number : ℕ) → HasRead text i number → length text ≤ i
-    → Ok number ≡ number_read text
-all_read text i number h past =
-    let is : number ≡ digits_value 10 text =
-    sym (ap (digits_value_after 10 number) (drop_all i text past)) ∙ h.value in
-    rw (h.all, ← is, lt-ltb number (2 ^ 64) h.fits) refl
 
 -- a checked sum or product that is refused is past the bound
 pub beyond :
