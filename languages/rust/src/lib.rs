@@ -1,4 +1,5 @@
-//! A map from whole numbers to whole numbers that many threads read and write at the same time, without locks.
+//! A map from whole numbers to whole numbers that many threads read and write at the same time. It begins small, and grows and
+//! shrinks as keys come and go.
 //!
 //! ```
 //! use samvolip::Map;
