@@ -429,7 +429,7 @@ static void options_and_versions_out_of_range_are_refused(void)
 {
     const samvolip_map_options wrong[] = {{.growth = 1}, {.growth = 65}, {.growth = UINT32_MAX}, {.threads = SAMVOLIP_MAP_MOST_THREADS + 1},
                                           {.threads = UINT32_MAX}, {.keys = SAMVOLIP_KEYS_AS_THEY_ARE + 1}, {.keys = UINT32_MAX},
-                                          {.room = SAMVOLIP_MANY_KEYS + 1}, {.room = UINT64_MAX}};
+                                          {.room = SAMVOLIP_MOST_KEYS + 1}, {.room = UINT64_MAX}};
     const samvolip_map_options right[] = {SAMVOLIP_MAP_OPTIONS_INIT, {.growth = 2}, {.growth = 64}, {.threads = 1}, {.room = 1},
                                           {.threads = SAMVOLIP_MAP_MOST_THREADS}, {.keys = SAMVOLIP_KEYS_AS_THEY_ARE}};
     samvolip_map *map = NULL, *left = NULL;
