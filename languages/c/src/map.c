@@ -396,7 +396,8 @@ static bool go_inside(void)
 {
     if (is_inside())
         return false;
-    atomic_store(&here.busy, WAITS);
+    atomic_store_explicit(&here.busy, WAITS, memory_order_relaxed); /* who closes a gate doesn't look for it, but a handler does */
+    atomic_signal_fence(memory_order_seq_cst);
     return true;
 }
 
