@@ -41,14 +41,17 @@
  * a seat.
  *
  * Signals. A handler that interrupts its thread in the middle of a call of any such map is refused
- * with SAMVOLIP_E_NESTED. Else it may read, and write keys that are there. All other calls, and a
- * first call of a thread, may take memory or wait for a thread that does; so a handler that may
- * interrupt malloc or free doesn't make them. A handler neither opens, frees nor leaves a map, and
- * ends no walk. No thread is cancelled in the middle of a call.
+ * with SAMVOLIP_E_NESTED. Else it may read, and change the number of a key that is there, if its
+ * stack has 8 KiB to spare. All other calls, a removal among them, and a first call of a thread may
+ * take memory or wait for a thread that does; so a handler that may interrupt malloc or free doesn't
+ * make them. A handler neither opens, frees nor leaves a map, and ends no walk. No thread is
+ * cancelled in the middle of a call.
  *
  * Forks. The child of a fork has a map of its own, as the other was between two calls, and may call
  * it. Walks of other threads go on in the parent alone; what they hold is the child's for good.
- * Make no fork in the middle of a call, as a handler could.
+ * Make no fork in the middle of a call, as a handler could. A fork waits for calls that are under
+ * way: a thread that has a lock which a fork handler of the program takes makes no call, unless that
+ * handler was registered after the first map was opened. The child of a raw clone makes no call.
  *
  * Pointers are not NULL, but for `options`, `before`, `there` and `visit`.
  */
@@ -80,7 +83,7 @@ enum samvolip_keys {
 /* How a map is opened. 0 stands for the default, which is told last. */
 typedef struct samvolip_map_options {
     uint64_t room;    /* for how many keys there is room at first, and at least: 1000 */
-    uint64_t memory;  /* how many bytes tables take at most, old and new ones together: any number */
+    uint64_t memory;  /* how many bytes the table takes at most, with the new one of a renewal: any */
     uint32_t growth;  /* a renewal makes room for so many times the keys that there are, 2 to 64: 4 */
     uint32_t threads; /* how many threads have a seat of their own, up to 240: 64 */
     uint32_t keys;    /* an enum samvolip_keys */
@@ -111,7 +114,7 @@ int samvolip_map_open_with(uint32_t version, size_t options_size, size_t figures
 /*
  * Makes an empty map. NULL stands for the defaults.
  *
- * Cost: memory for a table, of 32 KiB by default, and 128 bytes for each of the `threads`.
+ * Cost: memory for a table, of 32 KiB by default, and some 400 bytes for each of the `threads`.
  * Refused: E_VERSION, E_OPTIONS, E_OUT_OF_MEMORY.
  */
 static inline int samvolip_map_open(const samvolip_map_options *options, samvolip_map **map)
@@ -135,9 +138,9 @@ void samvolip_map_leave(samvolip_map *map);
  * `there`, or else SAMVOLIP_ABSENT, and 0 is written. What is refused, beside E_KEY_RANGE and
  * E_NESTED, is beside each, without SAMVOLIP_.
  *
- * Cost: that of the call of samvolip.h, one store and four loads; and of a first call of a thread a
- * lock. get waits for nobody, but for the moment of an exchange, and in a thread without a seat of
- * its own. Writes wait for a renewal.
+ * Cost: that of the call of samvolip.h, two stores and some loads, and two multiplications to mix
+ * the key; and of a first call of a thread a lock. get waits for nobody, but for the moment of an
+ * exchange, and in a thread without a seat of its own. Writes wait for a renewal.
  */
 int samvolip_map_get(samvolip_map *map, uint64_t key, uint64_t *number);
 
@@ -201,7 +204,8 @@ int samvolip_map_clear(samvolip_map *map, samvolip_map_visit *visit, void *conte
 int samvolip_map_snapshot(samvolip_map *map, samvolip_entry *entries, size_t room, size_t *count);
 
 /* A renewal by hand, with room for so many keys, or for those that there are, if these are more; 0
-   stands for what the options say. It gives up the slots of removed keys. E_OUT_OF_MEMORY */
+   stands for what the options say, with less growth if memory is refused. It gives up the slots of
+   removed keys. E_OUT_OF_MEMORY */
 int samvolip_map_renew(samvolip_map *map, uint64_t room);
 
 int samvolip_map_look(samvolip_map *map, samvolip_map_figures *figures);
@@ -217,7 +221,9 @@ int samvolip_map_look(samvolip_map *map, samvolip_map_figures *figures);
  * samvolip_map_walk_next returns SAMVOLIP_PRESENT, and a key and its number are written; or
  * SAMVOLIP_ABSENT at the end.
  *
- * Cost: memory for 64 entries; a load for each slot on the way, and a lock for every 64 keys.
+ * Cost: memory for 64 entries; a load for each slot on the way, and a lock for every 64 keys and for
+ * every 4,096 slots. The tables in which it began are kept until it ends, beside those that `memory`
+ * in the options bounds.
  * Refused: E_NESTED; and by the first E_OUT_OF_MEMORY.
  */
 int samvolip_map_walk_begin(samvolip_map *map, samvolip_map_walk **walk);

@@ -135,7 +135,7 @@ inline share_out(kind) {
 /* With the lock: begins to help, or to wait. */
 inline wait_or_help() {
     if
-    :: job != NOTHING && mine != 0 && (job == LISTING || next[mine] != NONE) -> task = job; helpers++
+    :: job != NOTHING && mine != 0 -> task = job; helpers++
     :: else -> sleep(me)
     fi
 }
@@ -171,29 +171,17 @@ inline give_back() {
     mine = 0
 }
 
-#ifdef SEAT_AT_ANY_TIME
-#define may_arrive true
-#elif defined(SEAT_WHILE_OPEN)
-#define may_arrive admits(WRITES)
-#else
-#define may_arrive !alone
-#endif
-
-/* Gets a lane of its own, and a seat for it unless the lane has one; or goes without, as where somebody is alone, no lane is free, or
-   memory is refused. */
+/* Gets a lane of its own, which has a seat already; or goes without, as where no lane is free. */
 inline arrive() {
     atomic {
         !locked ->
         drain(me);
         if
-        :: may_arrive && owner[FIRST] == 0 -> mine = FIRST
-        :: OWN > 1 && may_arrive && owner[FIRST] != 0 && owner[FIRST + 1] == 0 -> mine = FIRST + 1
+        :: owner[FIRST] == 0 -> mine = FIRST
+        :: OWN > 1 && owner[FIRST] != 0 && owner[FIRST + 1] == 0 -> mine = FIRST + 1
         :: SHARED > 0
         fi;
-        if
-        :: mine != 0 -> owner[mine] = 1 + me; if :: seat[mine] == NONE -> seat[mine] = CURRENT :: else fi
-        :: else
-        fi
+        if :: mine != 0 -> owner[mine] = 1 + me :: else fi
     }
 }
 
@@ -389,15 +377,12 @@ inline open_gate() {
 #endif
 }
 
-/* For each lane with a seat one of the core to come, unless it has that; until memory is refused. From now on no lane gets a seat. */
+/* For each lane a seat of the core to come; until memory is refused. Without the lock: nobody else looks at next seats now. */
 inline seat_lanes() {
     atomic {
-        !locked ->
         for (t : 0 .. LANES - 1) {
-            if
-            :: seat[t] != NONE && next[t] == NONE -> if :: next[t] = COMING :: has_failed = true; break fi
-            :: else
-            fi
+            assert(next[t] == NONE);
+            if :: next[t] = COMING :: has_failed = true; break fi
         }
         t = 0
     }
@@ -441,7 +426,6 @@ inline exchange_and_open() {
 /* Frees the next seats, of the core to come or of the one that was; and that core. */
 inline drop() {
     atomic {
-        !locked ->
 #ifndef NEXT_SEATS_STAY
         for (t : 0 .. LANES - 1) { next[t] = NONE }
         t = 0;
@@ -500,7 +484,7 @@ inline fork() {
         !locked ->
         assert(job == NOTHING && helpers == 0);
         for (t : 0 .. LANES - 1) {
-            assert(works[t] == REST && (seat[t] == NONE || seat[t] == CURRENT) && next[t] == NONE);
+            assert(works[t] == REST && seat[t] == CURRENT && next[t] == NONE);
 #ifdef CHILD_STAYS_BUSY
             assert(lane_busy[t] == REST)
 #endif
@@ -543,7 +527,7 @@ next_one:
 
 init {
     atomic {
-        for (t : 0 .. SHARED) { seat[t] = CURRENT }
+        for (t : 0 .. LANES - 1) { seat[t] = CURRENT }
         for (t : 0 .. THREADS - 1) { run thread(t); run memory(t) }
         for (t : THREADS .. THREADS + WHOLES - 1) { run whole(t) }
         t = 0

@@ -6,7 +6,6 @@
    has none: membarrier gives it to all threads that run when the gate is closed. So either the one who closes sees the busy word, or
    the call sees the gate. ../model/gate.pml is this for spin, and docs/endless.md tells it in a page. */
 #define _GNU_SOURCE
-#include "memory.h"
 #include "samvolip_map.h"
 #include <linux/membarrier.h>
 #include <pthread.h>
@@ -27,7 +26,7 @@
 #define COLD __attribute__((cold, noinline))
 
 /* Lane 0 is of who is alone with the map; those up to SHARED of threads that share; the others have an owner each. */
-enum { SHARED = 6, COMMON = 1 + SHARED, CELLS = 8, PART = 512, WALKED = 64, SLOTS_A_WALK = 4096, LEAST_LEFT = 16 };
+enum { SHARED = 6, COMMON = 1 + SHARED, CELLS = 8, PART = 128, WALKED = 64, SLOTS_A_WALK = 4096, LEAST_LEFT = 16 };
 
 enum gate { OPEN, FENCED, READS_ONLY, CLOSED }; /* FENCED is open where the system has no membarrier */
 enum busy { REST, READS, WRITES, WAITS, KINDS }; /* a thread's busy word is one of these plus KINDS times the map's id */
@@ -36,13 +35,13 @@ enum busy { REST, READS, WRITES, WAITS, KINDS }; /* a thread's busy word is one 
 typedef struct lane {
     _Alignas(128) uint32_t left; /* keys that come or go until it looks how full the map is */
     atomic_uint busy;    /* of a lane that threads share: whether one of them is in a call */
-    samvolip_seat seat;  /* empty until a thread first has the lane; it keeps it for the next thread */
+    samvolip_seat seat;  /* of the core */
     samvolip_seat next;  /* during a renewal: of the core to come, and then of the one that was */
 } lane;
 
 /* A proved map of one table. */
 typedef struct core {
-    samvolip_seat reserve; /* the seats that no lane has; walks are made by one of them, with the map's lock */
+    samvolip_seat reserve; /* the seat that no lane has, by which walks are made, with the map's lock */
     uint64_t walks;        /* that began here */
     uint32_t exponent;
     bool is_over;          /* another one is in its place: the last walk frees it */
@@ -70,7 +69,7 @@ struct samvolip_map {
     mixing mixing;
     _Alignas(128) pthread_mutex_t lock;
     pthread_cond_t turned; /* the gate, the work or who is alone has changed */
-    atomic_bool alone;     /* somebody renews, counts, lists or forks: nobody else does, and no lane gets a seat */
+    atomic_bool alone;     /* somebody renews, counts, lists or forks: nobody else does */
     job *job;              /* who waits may help; NULL: nothing to do */
     unsigned helpers;
     core *core;
@@ -128,13 +127,6 @@ static void rest(unsigned turn)
         sched_yield();
     else
         nanosleep(&(struct timespec){0, 50000}, NULL);
-}
-
-static void swap(samvolip_seat *one, samvolip_seat *other)
-{
-    samvolip_seat kept = *one;
-    *one = *other;
-    *other = kept;
 }
 
 static uint64_t now(void)
@@ -298,7 +290,7 @@ static void share_out(samvolip_map *map, job *job)
 /* With the lock: waits until something has changed, or helps meanwhile. */
 static void wait_or_help(samvolip_map *map, lane *mine)
 {
-    if (map->job && mine && (map->job->list || mine->next.handle))
+    if (map->job && mine)
         help(map, mine);
     else
         wait(map);
@@ -315,30 +307,19 @@ static lane *find_lane(const samvolip_map *map)
     return NULL;
 }
 
-/* With the lock: a lane that nobody has, with a seat; NULL if there is none, or no memory for its seat. */
-static lane *free_lane(samvolip_map *map)
-{
-    lane *empty = NULL;
-    for (unsigned i = COMMON; i < map->count; i++) {
-        lane *one = &map->lanes[i];
-        if (map->owners[i])
-            continue;
-        if (one->seat.handle)
-            return one;
-        empty = empty ? empty : one;
-    }
-    return empty && samvolip_split(&map->core->reserve, &empty->seat) >= 0 ? empty : NULL;
-}
-
-/* Gives this thread a lane of its own, if there is one and nobody is alone. Who is alone may have looked which lanes have seats. */
+/* Gives this thread a lane of its own, if there is one that nobody has. */
 static COLD lane *arrive(samvolip_map *map)
 {
-    lock(map);
-    lane *mine = !map->alone && !here.is_over && pthread_setspecific(at_end, &here) == 0 ? free_lane(map) : NULL;
-    if (mine) {
-        map->owners[mine - map->lanes] = &here;
-        map->taken++;
-    }
+    lane *mine = NULL;
+    if (here.is_over || pthread_setspecific(at_end, &here) != 0)
+        return NULL;
+    lock(map); /* nobody takes memory with it, so that a handler which waits for it may have interrupted malloc */
+    for (unsigned i = COMMON; i < map->count && !mine; i++)
+        if (!map->owners[i]) {
+            map->owners[i] = &here;
+            map->taken++;
+            mine = &map->lanes[i];
+        }
     unlock(map);
     return mine;
 }
@@ -526,8 +507,7 @@ static bool has_memory(const samvolip_map *map, uint32_t exponent)
     return map->options.memory == 0 || slots <= map->options.memory / sizeof(samvolip_entry);
 }
 
-/* A core for the map. `is_filled`: with spread keys, while others wait, so that its pages are wanted before. */
-static int new_core(const samvolip_map *map, uint32_t exponent, bool is_filled, core **made)
+static int new_core(const samvolip_map *map, uint32_t exponent, core **made)
 {
     uint32_t stripes = map->count < 16 ? map->count : 16;
     samvolip_shape shape = {{exponent}, 1, map->count + 1, stripes, 18, 256};
@@ -535,9 +515,7 @@ static int new_core(const samvolip_map *map, uint32_t exponent, bool is_filled, 
     if (!fresh)
         return SAMVOLIP_E_OUT_OF_MEMORY;
     fresh->exponent = exponent;
-    takes_pages_at_once = is_filled && map->mixes;
     int code = samvolip_open(&shape, &fresh->reserve);
-    takes_pages_at_once = false;
     if (code < 0)
         free(fresh);
     else
@@ -551,28 +529,21 @@ static void free_core(core *one)
     free(one);
 }
 
-/* Alone: a seat of the core to come for each lane that has a seat. No lane gets one from now on. */
+/* Alone: a seat of the core to come for each lane. */
 static int seat_lanes(samvolip_map *map, core *fresh)
 {
     int code = SAMVOLIP_OK;
-    lock(map);
     for (lane *one = map->lanes; one < map->lanes + map->count && code >= 0; one++)
-        if (one->seat.handle && !one->next.handle)
-            code = samvolip_split(&fresh->reserve, &one->next);
-    unlock(map);
+        code = samvolip_split(&fresh->reserve, &one->next);
     return code;
 }
 
-/* Frees the lanes' next seats, of the core to come or of the one that was, and the core, unless walks go on. */
+/* Alone, and there is no work: frees the lanes' next seats, of the core to come or of the one that was, and that core, unless walks go
+   on. */
 static void drop(samvolip_map *map, core *gone)
 {
-    for (unsigned i = 0; i < map->count; i++) {
-        samvolip_seat next = SAMVOLIP_SEAT_INIT;
-        lock(map); /* who waits looks whether it has a next seat */
-        swap(&next, &map->lanes[i].next);
-        unlock(map);
-        samvolip_free(&next);
-    }
+    for (lane *one = map->lanes; one < map->lanes + map->count; one++)
+        samvolip_free(&one->next);
     lock(map);
     gone->is_over = true;
     bool is_last = gone->walks == 0;
@@ -586,7 +557,9 @@ static void exchange_core(samvolip_map *map, core **fresh)
 {
     core *was = map->core;
     for (lane *one = map->lanes; one < map->lanes + map->count; one++) {
-        swap(&one->seat, &one->next);
+        samvolip_seat was_seat = one->seat;
+        one->seat = one->next;
+        one->next = was_seat;
         one->left = 0;
     }
     map->core = *fresh;
@@ -621,22 +594,22 @@ static int copy(samvolip_map *map, const core *fresh)
 static int exchange(samvolip_map *map, uint32_t exponent, samvolip_map_walk *walk)
 {
     core *fresh;
-    int code = new_core(map, exponent, walk == NULL, &fresh);
+    bool is_clear = walk != NULL;
+    int code = new_core(map, exponent, &fresh);
     if (code < 0)
         return code;
     if ((code = seat_lanes(map, fresh)) >= 0) {
-        uint64_t writes = stop(map, walk ? CLOSED : READS_ONLY), reads = writes;
-        if (!walk) {
+        uint64_t writes = stop(map, is_clear ? CLOSED : READS_ONLY), reads = writes;
+        if (!is_clear) {
             code = copy(map, fresh);
             reads = code >= 0 ? stop(map, CLOSED) : now();
         }
         lock(map);
-        if (code >= 0) {
-            if (walk)
-                begin_walk(walk, map);
+        if (is_clear)
+            begin_walk(walk, map);
+        if (code >= 0)
             exchange_core(map, &fresh);
-        }
-        map->figures.renewals += code >= 0 && !walk;
+        map->figures.renewals += code >= 0 && !is_clear;
         go_on(map, writes, reads);
         unlock(map);
     }
@@ -656,19 +629,24 @@ static uint32_t exponent_of(uint64_t slots)
     return exponent;
 }
 
-/* The same with room for so many keys: half as many slots again. */
-static uint32_t exponent_for(uint64_t keys) { return exponent_of(keys + keys / 2); }
+/* How many slots make room for so many keys: half as many again. */
+static uint64_t with_half(uint64_t keys) { return keys + keys / 2; }
 
-/* Alone: renews the map with room for `room` keys, or as the options say if that is 0; and with less if memory is refused, as long
-   as it isn't as full afterwards as it was. `is_full`: it has no slot left. */
-static int renew(samvolip_map *map, uint64_t room, bool is_full)
+static uint32_t exponent_for(uint64_t keys) { return exponent_of(with_half(keys)); }
+
+/* Why a map is renewed: it is time, or it has no slot left, or somebody asks for it. */
+enum why { TIME, FULL, ASKED };
+
+/* Alone: renews the map, with room for `room` keys if so many are asked for; and with less than the options say if memory is refused,
+   but not with less than is asked for, nor for nothing. */
+static int renew(samvolip_map *map, enum why why, uint64_t room)
 {
     int code = SAMVOLIP_E_FULL;
-    while (code == SAMVOLIP_E_FULL) {
-        uint64_t keys = samvolip_size_estimate(&map->lanes[0].seat), slots = is_full ? keys + 1 : keys + keys / 2;
-        /* it comes when there are about 2/3 as many keys as slots: by 5/4, and not 3/2, 4 times as many don't become 8 times by rounding */
-        uint64_t grown = keys * map->options.growth, wanted = room ? room + room / 2 : grown + grown / 4;
-        wanted = greater(wanted, greater(keys + keys / 2, map->options.room + map->options.room / 2));
+    while (code == SAMVOLIP_E_FULL) { /* more keys came than there were when it looked */
+        uint64_t keys = samvolip_size_estimate(&map->lanes[0].seat), grown = keys * map->options.growth;
+        uint64_t slots = why == FULL ? keys + 1 : why == TIME ? with_half(keys) : greater(keys + 1, with_half(room ? room : map->options.room));
+        /* it is time when there are about 2/3 as many keys as slots: by 5/4, and not 3/2, 4 times as many don't become 8 times by rounding */
+        uint64_t wanted = greater(greater(slots, with_half(greater(keys, map->options.room))), room ? 0 : grown + grown / 4);
         uint32_t least = exponent_of(slots), exponent = exponent_of(wanted);
         code = SAMVOLIP_E_OUT_OF_MEMORY;
         if (slots_of(least) >= slots)
@@ -705,7 +683,7 @@ static COLD bool renew_after(samvolip_map *map, int *code)
     int refused = SAMVOLIP_OK;
     rest_lane();
     if ((is_full || !map->alone) && be_alone(map, &cores)) {
-        refused = renew(map, 0, is_full);
+        refused = renew(map, is_full ? FULL : TIME, 0);
         end_alone(map);
     }
     go_outside();
@@ -903,7 +881,7 @@ int samvolip_map_renew(samvolip_map *map, uint64_t room)
 {
     if (room > MOST_ROOM)
         return SAMVOLIP_E_OUT_OF_MEMORY;
-    return begin_alone(map) ? finish_alone(map, renew(map, room, true)) : SAMVOLIP_E_NESTED;
+    return begin_alone(map) ? finish_alone(map, renew(map, ASKED, room)) : SAMVOLIP_E_NESTED;
 }
 
 int samvolip_map_look(samvolip_map *map, samvolip_map_figures *figures)
@@ -1143,9 +1121,11 @@ int samvolip_map_open_with(uint32_t version, size_t options_size, size_t figures
     samvolip_map *map = new_map(&read);
     if (!map)
         return SAMVOLIP_E_OUT_OF_MEMORY;
-    int code = new_core(map, exponent_for(read.room), false, &map->core);
-    for (unsigned i = 0; i < COMMON && code >= 0; i++)
-        code = samvolip_split(&map->core->reserve, &map->lanes[i].seat);
+    core *first = NULL;
+    int code = new_core(map, exponent_for(read.room), &first);
+    if (code >= 0)
+        code = seat_lanes(map, first);
+    exchange_core(map, &first);
     if (code < 0) {
         free_map(map);
         return code;

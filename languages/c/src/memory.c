@@ -6,7 +6,6 @@
    A large block begins at a multiple of a huge page. So nearly all pointers are told at a glance to be malloc's, and the others by
    the list of large blocks. The list has no lock, so nobody waits for a thread that was stopped, or that a forked child lacks. */
 #define _GNU_SOURCE
-#include "memory.h"
 #include <stdatomic.h>
 #include <stdbool.h>
 #include <stdint.h>
@@ -26,11 +25,6 @@ void *__wrap_memset(void *at, int byte, size_t size);
 #define PAGE ((size_t)1 << 12)
 #define LARGE ((size_t)1 << 20)
 #define HUGE_PAGE ((size_t)1 << 21)
-#ifndef MADV_POPULATE_WRITE /* since Linux 5.14; an older one refuses it, and pages come when they are written */
-#define MADV_POPULATE_WRITE 23
-#endif
-
-_Thread_local bool takes_pages_at_once = false;
 
 /* The list: a place for each large block. Where all are taken, large blocks are malloc's, too. */
 static struct large {
@@ -124,15 +118,13 @@ void *__wrap_realloc(void *block, size_t size)
 }
 
 /* Clearing a large block from its beginning on gives the whole pages back to the system, and they are zero whatever was in them.
-   Pages that nobody has touched cost nothing so, unless they are taken at once. */
+   Pages that nobody has touched cost nothing so. */
 void *__wrap_memset(void *at, int byte, size_t size)
 {
     const struct large *large = byte == 0 && size >= LARGE ? large_at(at) : NULL;
     size_t whole = size / PAGE * PAGE;
     if (large == NULL || madvise(at, whole, MADV_DONTNEED) != 0)
         return __real_memset(at, byte, size);
-    if (takes_pages_at_once)
-        madvise(at, whole, MADV_POPULATE_WRITE);
     __real_memset((char *)at + whole, 0, size - whole);
     return at;
 }
