@@ -257,8 +257,8 @@ struct options {
     samvolip::keys keys = samvolip::keys::secret;
 };
 
-/* A walk over a map, by one thread at a time, while others write it. A samvolip_map_walk says what
-   it shows. */
+/* A walk over a map, by one thread at a time, while others write. What it shows samvolip_map.h
+   says. */
 class walk {
 public:
     /* The next key and its number, or nothing at the end. */
@@ -322,7 +322,8 @@ public:
     }
 
     /* These answer what was at the key before. The first puts a number there, the second puts it
-       in place of another, the third adds it to what is there, or to 0. sum_range */
+       in place of another, the third adds it to what is there, or to 0, and is also refused for
+       sum_range. */
     result<found> exchange(std::uint64_t key, std::uint64_t number)
     {
         return told<samvolip_map_put>(key, number);
