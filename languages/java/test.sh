@@ -1,5 +1,6 @@
 #!/usr/bin/env bash
-# Tests the package with each Java that is here: test.sh LIBRARY, which is the file libsamvolip.so. It prints a line for each.
+# Tests the package with each Java that is here: test.sh LIBRARY, which is the file libsamvolip.so. It prints a line for each. Where the jars
+# of Debian's libguava-testlib-java and junit4 are here, it runs Guava's tests of a ConcurrentMap, too.
 set -euo pipefail
 here="$(cd "$(dirname "${BASH_SOURCE[0]}")" && pwd)"
 library="$(readlink -f "${1:?test.sh LIBRARY}")"
@@ -8,14 +9,28 @@ made="$(mktemp -d)"
 trap 'rm -rf "$made"' EXIT
 fail() { cat "$made/told"; echo "$*"; exit 1; }
 
+guava=
+for jar in guava-testlib guava junit4; do guava="$guava:/usr/share/java/$jar.jar"; done
+if ! ls ${guava//:/ } > "$made/told" 2>&1; then
+    echo "Guava's tests of a ConcurrentMap were left out, since their jars aren't in /usr/share/java"
+    guava=
+fi
+
 "$here/make.sh" "$made" > "$made/javas"
 while read -r version home; do
     flags=(--enable-native-access=ALL-UNNAMED -cp "$made/samvolip.jar:$made/$version")
     if [ "$version" = 17 ]; then flags+=(--add-modules jdk.incubator.foreign); release=17; else release=22; fi
-    "$home/bin/javac" --release $release -cp "$made/samvolip.jar" -d "$made/$version" "$here"/tests/*.java "$here"/examples/*.java "$here"/bench/*.java
+    "$home/bin/javac" --release $release -cp "$made/samvolip.jar" -d "$made/$version" "$here"/tests/SamvolipTest.java "$here"/examples/*.java "$here"/bench/*.java
     "$home/bin/java" "${flags[@]}" -Dsamvolip="$library" SamvolipTest "$here" > "$made/told" 2>&1 || fail "the test of Java $version fails"
     "$home/bin/java" "${flags[@]}" -Dsamvolip="$(dirname "$library")" Visits > "$made/told" 2> "$made/errors" || { cat "$made/errors"; fail "the example of Java $version fails"; }
     diff "$here/examples/Visits.out" "$made/told" || fail "the example of Java $version prints something else"
+
+    if [ -n "$guava" ]; then
+        "$home/bin/javac" --release $release -cp "$made/samvolip.jar$guava" -d "$made/$version" "$here"/tests/GuavaTest.java
+        "$home/bin/java" "${flags[@]}" -cp "$made/samvolip.jar:$made/$version$guava" -Dsamvolip="$library" GuavaTest > "$made/told" 2> "$made/errors" \
+            || { cat "$made/errors"; fail "Guava's tests fail with Java $version"; }
+        echo "Java $version: $(cat "$made/told")"
+    fi
 
     # the same with the jar as a module
     modules=(-p "$made/samvolip.jar" --add-modules samvolip -cp "$made/$version" -Dsamvolip="$library")

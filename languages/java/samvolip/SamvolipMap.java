@@ -13,6 +13,7 @@ import java.util.Iterator;
 import java.util.List;
 import java.util.Objects;
 import java.util.OptionalLong;
+import java.util.concurrent.ConcurrentMap;
 import java.util.function.LongBinaryOperator;
 import java.util.function.LongUnaryOperator;
 import java.util.function.UnaryOperator;
@@ -343,13 +344,22 @@ public final class SamvolipMap implements AutoCloseable, Iterable<Entry> {
     /** The same, shown to a function. */
     public void forEach(EntryConsumer shown) {
         Objects.requireNonNull(shown);
+        any((key, number) -> {
+            shown.accept(key, number);
+            return false;
+        });
+    }
+
+    /** Whether the test says so of an entry of a walk, which ends there. */
+    boolean any(EntryPredicate test) {
         Walk walk = new Walk(this);
         try {
             while (walk.hasNext()) {
                 long key = walk.key(), number = walk.number();
                 walk.pass();
-                shown.accept(key, number);
+                if (test.test(key, number)) return true;
             }
+            return false;
         } finally {
             walk.end();
         }
@@ -363,6 +373,19 @@ public final class SamvolipMap implements AutoCloseable, Iterable<Entry> {
             if (test.test(key, number) && remove(key, number)) removed[0]++;
         });
         return removed[0];
+    }
+
+    /**
+     * This map as Java's own interface: what one of the two does, the other shows. A null key or value is refused by NullPointerException,
+     * and a write of a key or a value out of range by IllegalArgumentException; other calls find nothing there. A Long is a key if its bits
+     * are, so -3 is the greatest and -1 is none. A function is called again if another thread wrote the key meanwhile; if it answers null,
+     * the key is taken out.
+     *
+     * <p>The iterators of its views are walks ({@link #iterator}) that can remove, and their entries write to the map. A walk that a program
+     * leaves before its end keeps its memory until it is collected.
+     */
+    public ConcurrentMap<Long, Long> asConcurrentMap() {
+        return new BoxedMap(this);
     }
 
     /** Makes the map anew, with room for so many keys or for those that there are; 0 stands for what the options say. */

@@ -3,12 +3,15 @@ import java.nio.file.Files;
 import java.nio.file.Path;
 import java.util.ArrayList;
 import java.util.Arrays;
+import java.util.Collection;
 import java.util.Comparator;
 import java.util.Iterator;
 import java.util.List;
+import java.util.Map;
 import java.util.NoSuchElementException;
 import java.util.OptionalLong;
 import java.util.concurrent.CompletableFuture;
+import java.util.concurrent.ConcurrentMap;
 import java.util.concurrent.ExecutorService;
 import java.util.concurrent.Executors;
 import java.util.concurrent.ForkJoinPool;
@@ -24,7 +27,7 @@ import samvolip.Options;
 import samvolip.Refused;
 import samvolip.SamvolipMap;
 
-/** Each call and refusal; many threads, through renewals; walks; closing. */
+/** Each call and refusal; many threads, through renewals; walks; the view of a ConcurrentMap; closing. */
 public final class SamvolipTest {
     private static void expect(boolean holds) {
         if (!holds) throw new AssertionError();
@@ -290,6 +293,88 @@ public final class SamvolipTest {
         }
     }
 
+    private static boolean throwsAs(Class<? extends RuntimeException> kind, Runnable call) {
+        try {
+            call.run();
+        } catch (RuntimeException thrown) {
+            return kind.isInstance(thrown);
+        }
+        return false;
+    }
+
+    /** What Guava's suite doesn't ask of the view: its ranges, and what a removal by a test leaves. */
+    private static void view() {
+        try (SamvolipMap map = new SamvolipMap()) {
+            ConcurrentMap<Long, Long> view = map.asConcurrentMap();
+            expect(view.putIfAbsent(1L, Keys.VALUE_MAX) == null && view.put(Keys.KEY_MAX, 0L) == null);
+            expect(map.get(1), of(Keys.VALUE_MAX));
+            List<Runnable> outOfRange = List.of(() -> view.put(-1L, 1L), () -> view.put(1L, -1L), () -> view.put(1L, Keys.VALUE_MAX + 1),
+                () -> view.putIfAbsent(-2L, 1L), () -> view.replace(-2L, 1L), () -> view.replace(1L, Keys.VALUE_MAX, -1L),
+                () -> view.replace(-1L, 1L, 1L), () -> view.merge(1L, 1L, Long::sum), () -> view.merge(2L, -1L, Long::sum),
+                () -> view.compute(-1L, (key, value) -> 1L), () -> view.computeIfAbsent(2L, key -> -1L),
+                () -> view.computeIfPresent(1L, (key, value) -> -1L), () -> view.entrySet().iterator().next().setValue(-1L));
+            for (Runnable call : outOfRange) expect(throwsAs(IllegalArgumentException.class, call));
+            List<Runnable> nulls = List.of(() -> view.compute(null, (key, value) -> 1L), () -> view.merge(1L, null, Long::sum),
+                () -> view.merge(null, 1L, Long::sum), () -> view.computeIfAbsent(null, key -> 1L), () -> view.replaceAll((key, value) -> null),
+                () -> view.replace(1L, null, 1L), () -> view.remove(1L, null), () -> view.containsValue(null), () -> view.forEach(null),
+                () -> view.get(null), () -> view.remove(null), () -> view.containsKey(null), () -> view.getOrDefault(null, 1L));
+            for (Runnable call : nulls) expect(throwsAs(NullPointerException.class, call));
+            expect(view.get(-1L) == null && view.get("1") == null && view.remove(-2L) == null && !view.containsKey(-1L));
+            expect(!view.containsValue(-1L) && !view.values().remove(-1L) && !view.remove(1L, -1L) && !view.replace(1L, -1L, 1L));
+            for (Map.Entry<Long, Long> other : List.of(Map.entry(-1L, 1L), Map.entry(1L, -1L), Map.entry(1L, 1L), Map.entry(2L, Keys.VALUE_MAX))) {
+                expect(!view.entrySet().contains(other) && !view.entrySet().remove(other));
+            }
+            expect(view.equals(Map.of(1L, Keys.VALUE_MAX, Keys.KEY_MAX, 0L)));
+            expect(!view.equals(Map.of(1L, 1L, 2L, 2L)) && !view.equals(Map.of("1", 1L, 1L, Keys.VALUE_MAX)));
+
+            view.replaceAll((key, value) -> 5L);
+            expect(view.values().stream().distinct().count(), 1L);
+            expect(!view.entrySet().removeIf(entry -> view.merge(entry.getKey(), 1L, Long::sum) > 0));
+            expect(!view.values().removeIf(value -> view.replace(1L, value + 1) != null & view.replace(Keys.KEY_MAX, value + 1) != null));
+            expect(view.equals(Map.of(1L, 7L, Keys.KEY_MAX, 7L)));
+            expect(view.keySet().removeIf(key -> view.merge(key, 1L, Long::sum) > 0) && view.isEmpty());
+            for (Collection<Long> part : List.of(view.keySet(), view.values())) {
+                expect(throwsAs(NullPointerException.class, () -> part.removeIf(null)));
+            }
+
+            for (long key = 0; key < 200; key++) view.put(key, key);
+            expect(view.keySet().stream().peek(shown -> view.keySet().removeIf(key -> true)).toArray().length < 200); // a stream has no size
+        }
+    }
+
+    /** The view's calls with functions are exact through renewals, and its views show what is there meanwhile. */
+    private static void viewBesideThreads() throws InterruptedException {
+        try (SamvolipMap map = new SamvolipMap(new Options().withRoom(10).withGrowth(2))) {
+            ConcurrentMap<Long, Long> view = map.asConcurrentMap();
+            AtomicLong takenOut = new AtomicLong();
+            threads(8, me -> {
+                for (long i = 0; i < 20000; i++) {
+                    long key = (i * 7 + me * 625) % 5000 * 65536;
+                    if (me % 2 == 0) view.merge(key, 1L, Long::sum);
+                    else view.compute(key, (same, value) -> value == null ? 1 : value + 1);
+                    if (i % 5000 != me) continue;
+                    for (Object shown : view.keySet().stream().toArray()) expect((long) shown % 65536, 0L);
+                    for (Long value : view.values().toArray(new Long[0])) expect(value >= 1);
+                    expect(view.entrySet().stream().mapToLong(Map.Entry::getValue).sum() >= 1);
+                    expect(!view.entrySet().removeIf(entry -> entry.getValue() < 1) && view.equals(view) && view.toString().length() > 2);
+                    for (Map.Entry<Long, Long> entry : view.entrySet()) {
+                        if (entry.getKey() % 3 != 0) continue;
+                        if (view.remove(entry.getKey(), entry.getValue())) takenOut.addAndGet(entry.getValue());
+                    }
+                }
+            });
+            long[] left = new long[1];
+            view.forEach((key, value) -> left[0] += value);
+            expect(left[0] + takenOut.get(), 160000L);
+            for (long number = 1; number < 5000; number++) if (number % 3 != 0) expect(view.get(number * 65536), 32L);
+            threads(8, me -> {
+                if (me % 2 == 0) view.keySet().removeIf(key -> true);
+                else for (Iterator<Long> values = view.values().iterator(); values.hasNext(); values.remove()) values.next();
+            });
+            expect(view.isEmpty() && view.equals(Map.of()) && view.hashCode() == 0);
+        }
+    }
+
     /** A map that is closed while others call: they are refused, and nothing breaks. A lost map is freed, after its walks. */
     private static void closing() throws InterruptedException {
         for (int round = 0; round < 100; round++) {
@@ -350,6 +435,8 @@ public final class SamvolipTest {
         pools();
         walks();
         walksOverRenewals();
+        view();
+        viewBesideThreads();
         closing();
         pages(Path.of(words[0]));
         System.out.println("java: well");
