@@ -45,6 +45,8 @@ final class Walk implements Iterator<Entry> {
 
     private final Held held;
     private final Cleaner.Cleanable ended;
+    /** What it took last, keys and numbers by turns. */
+    private final long[] some = new long[2 * SOME];
     private int next, count;
     private boolean isOver;
 
@@ -55,12 +57,16 @@ final class Walk implements Iterator<Entry> {
 
     /** Ends it. */
     void end() {
-        isOver = true;
         count = next;
+        letGo();
+    }
+
+    private void letGo() {
+        isOver = true;
         ended.clean();
     }
 
-    /** Whether there is another entry. Without one the walk ends. */
+    /** Whether there is another entry. What C has of the walk goes as soon as the last entries were taken. */
     @Override
     public boolean hasNext() {
         if (next < count) return true;
@@ -68,22 +74,23 @@ final class Walk implements Iterator<Entry> {
         try {
             next = 0;
             count = made((int) Functions.WALK_SOME.invokeExact(held.walk, held.entries, SOME));
+            for (int i = 0; i < 2 * count; i++) some[i] = Native.getLong(held.entries + 8L * i);
         } catch (Throwable thrown) {
             throw wrong(thrown);
         } finally {
             Reference.reachabilityFence(this);
         }
-        if (count == 0) end();
+        if (count < SOME) letGo();
         return count > 0;
     }
 
     /** The key and the number of the next entry, which there is; only then the next one is next. */
     long key() {
-        return Native.getLong(held.entries + (long) next * Functions.ENTRY_SIZE);
+        return some[2 * next];
     }
 
     long number() {
-        return Native.getLong(held.entries + (long) next * Functions.ENTRY_SIZE + 8);
+        return some[2 * next + 1];
     }
 
     void pass() {
@@ -95,7 +102,6 @@ final class Walk implements Iterator<Entry> {
         if (!hasNext()) throw new NoSuchElementException();
         Entry entry = new Entry(key(), number());
         pass();
-        Reference.reachabilityFence(this);
         return entry;
     }
 }
