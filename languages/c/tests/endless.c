@@ -689,14 +689,14 @@ static void threads_arrive_during_renewals(void)
 static pthread_barrier_t turns;
 static void look_in_turn(struct worker *worker)
 {
-    for (unsigned i = 0; i < 4; i++) {
+    for (unsigned i = 0; i < 5; i++) {
         pthread_barrier_wait(&turns);
         if (i == worker->number)
             worker->added = figures_of(worker->map).own_threads;
-        if (i == 3 && worker->number == 2)
-            worker->removed = figures_of(worker->map).own_threads;
-        if (i == 2 && worker->number == 0)
+        if (i == 3 && worker->number == 0)
             samvolip_map_leave(worker->map);
+        if (i == 4 && worker->number == 2)
+            worker->removed = figures_of(worker->map).own_threads;
         pthread_barrier_wait(&turns);
     }
 }
@@ -1157,9 +1157,23 @@ static void call_as_a_child(samvolip_map *map)
     samvolip_map_free(map);
 }
 
+/* Whether a child may take memory. The address sanitizer's own lock may be held by a thread that the child hasn't. */
+static bool has_memory_in_child(void)
+{
+#if defined(__SANITIZE_ADDRESS__)
+    return false;
+#elif defined(__has_feature)
+    return !__has_feature(address_sanitizer);
+#else
+    return true;
+#endif
+}
+
 /* Most of the threads share seats, so that a child comes while many are about to begin a call. */
 static void children_and_parents_go_on(void)
 {
+    if (!has_memory_in_child())
+        return;
     samvolip_map *map = open_map(1, 3, 0), *other = open_map(1, 1, 0);
     uint64_t children = 0;
     unsigned count = PAIR_WORKERS;
