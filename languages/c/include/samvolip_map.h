@@ -114,7 +114,8 @@ int samvolip_map_open_with(uint32_t version, size_t options_size, size_t figures
 /*
  * Makes an empty map. NULL stands for the defaults.
  *
- * Cost: memory for a table, of 32 KiB by default, and some 400 bytes for each of the `threads`.
+ * Cost: memory for a table, of 32 KiB by default, some 250 bytes for each of the `threads`, and some
+ * 10 KiB.
  * Refused: E_VERSION, E_OPTIONS, E_OUT_OF_MEMORY.
  */
 static inline int samvolip_map_open(const samvolip_map_options *options, samvolip_map **map)

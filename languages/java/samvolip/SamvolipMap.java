@@ -427,8 +427,8 @@ public final class SamvolipMap implements AutoCloseable, Iterable<Entry> {
     }
 
     /**
-     * Empties the map, which may not be called any more. Other threads may be in the middle of a call: its table goes at once, and the rest,
-     * some ten kilobytes, once nobody has the map any more.
+     * Empties the map, which may not be called any more. Other threads may be in the middle of a call: so an empty table of the first room
+     * stays, and goes once nobody has the map any more.
      */
     @Override
     public void close() {
