@@ -12,14 +12,9 @@ std::unique_ptr<item> item::make(std::string_view key, std::string_view value,
     return std::unique_ptr<item>(block ? new (block) item(key, value, expires, now) : nullptr);
 }
 
-std::unique_ptr<item> item::copy() const noexcept
-{
-    return make(key(), value(), expires_, used());
-}
-
 item::item(std::string_view key, std::string_view value, milliseconds expires,
            milliseconds now) noexcept
-    : expires_(expires), used_(std::uint32_t(now / tick)), key_size_(std::uint32_t(key.size())),
+    : expires_(expires), used_(std::uint32_t(now)), key_size_(std::uint32_t(key.size())),
       value_size_(std::uint32_t(value.size()))
 {
     char *to = reinterpret_cast<char *>(this + 1);

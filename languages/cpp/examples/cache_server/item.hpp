@@ -23,7 +23,7 @@ public:
     static std::unique_ptr<item> make(std::string_view key, std::string_view value,
                                       milliseconds expires, milliseconds now) noexcept;
     // The same key, value and times, with no list behind it.
-    std::unique_ptr<item> copy() const noexcept;
+    std::unique_ptr<item> copy() const noexcept { return make(key(), value(), expires_, used_); }
 
     item(const item &) = delete;
     ~item();
@@ -38,17 +38,17 @@ public:
     const item *next() const noexcept { return next_.get(); }
     void set_next(std::unique_ptr<item> next) noexcept { next_ = std::move(next); }
 
-    // When it was used last, to some hundredths of a second. Most uses write nothing, so that
-    // threads which read one item don't take its line from each other.
-    milliseconds used() const noexcept
+    // For how many milliseconds it hasn't been used: up to 24 days, since 32 bits of the time are
+    // kept, and less than 0 if another thread's clock is ahead. A use within the same millisecond
+    // writes nothing, so threads that read one item seldom take its line from each other.
+    std::int32_t age(milliseconds now) const noexcept
     {
-        return milliseconds(used_.load(std::memory_order_relaxed)) * tick;
+        return std::int32_t(std::uint32_t(now) - used_.load(std::memory_order_relaxed));
     }
     void use(milliseconds now) const noexcept
     {
-        const auto at = std::uint32_t(now / tick);
-        if (used_.load(std::memory_order_relaxed) != at)
-            used_.store(at, std::memory_order_relaxed);
+        if (age(now) != 0)
+            used_.store(std::uint32_t(now), std::memory_order_relaxed);
     }
 
     // How much memory it takes, with what malloc adds.
@@ -59,8 +59,6 @@ public:
     }
 
 private:
-    static constexpr milliseconds tick = 64;
-
     item(std::string_view key, std::string_view value, milliseconds expires,
          milliseconds now) noexcept;
     const char *bytes() const noexcept { return reinterpret_cast<const char *>(this + 1); }

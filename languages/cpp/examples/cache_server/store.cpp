@@ -9,7 +9,7 @@ namespace {
 
 constexpr int sample = 8;          // so many items are compared, and the oldest is evicted
 constexpr int most_failures = 64;  // in a row, of evictions
-constexpr std::int64_t most_kept = 64 << 10;
+constexpr std::int64_t most_kept = 64 << 10; // bytes that a thread doesn't tell the others of
 
 // A number as Redis takes it: digits, without a zero or a plus before them.
 bool is_number(std::string_view text, std::int64_t &number) noexcept
@@ -33,12 +33,13 @@ extent extent_of(const item *first) noexcept
     return all;
 }
 
-milliseconds last_use(const item *first) noexcept
+// Since the last use of any of them.
+std::int32_t age_of(const item *first, milliseconds now) noexcept
 {
-    milliseconds last = first->used();
+    std::int32_t age = first->age(now);
     for (const item *one = first->next(); one; one = one->next())
-        last = std::max(last, one->used());
-    return last;
+        age = std::min(age, one->age(now));
+    return age;
 }
 
 // The keys of the map are hashes by a secret already.
@@ -54,6 +55,7 @@ samvolip::options unmixed()
 store::store(const options &how, std::size_t threads)
     : items(unmixed()), counted(threads), most_bytes(std::int64_t(how.memory)),
       most_untold(std::min(most_kept, most_bytes / 32 / std::int64_t(threads))),
+      bound(most_bytes - std::int64_t(threads - 1) * most_untold),
       secret_(secret::draw()), mask_((std::uint64_t(1) << how.hash_bits) - 1)
 {
 }
@@ -204,20 +206,20 @@ void access::count(const extent &before, const extent &after)
     mine_.expiring.add(after.expiring - before.expiring);
     untold_ += after.bytes - before.bytes;
     if (std::abs(untold_) >= of_.most_untold) {
-        of_.bytes.fetch_add(untold_, std::memory_order_relaxed);
+        of_.told.fetch_add(untold_, std::memory_order_relaxed);
         untold_ = 0;
     }
 }
 
 bool access::fits(std::int64_t more) const noexcept
 {
-    return of_.bytes.load(std::memory_order_relaxed) + untold_ + more <= of_.most_bytes;
+    return of_.told.load(std::memory_order_relaxed) + untold_ + more <= of_.bound;
 }
 
 // Evicts until an item of this size fits, and answers whether it does.
 bool access::make_room(std::int64_t more)
 {
-    if (more > of_.most_bytes)
+    if (more > of_.bound)
         return false;
     for (int failures = 0; !fits(more) && failures < most_failures;)
         failures = evict() ? 0 : failures + 1;
@@ -235,7 +237,7 @@ bool access::evict()
     std::uint64_t hash = 0;
     for (int i = 0; i < count_of_some; i++) {
         const item *one = pinned.get(some[i].key);
-        if (one && (!oldest || last_use(one) < last_use(oldest))) {
+        if (one && (!oldest || age_of(one, now_) > age_of(oldest, now_))) {
             oldest = one;
             hash = some[i].key;
         }

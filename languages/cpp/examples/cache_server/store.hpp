@@ -34,8 +34,9 @@ public:
     samvolip::object_map<item> items;
     std::vector<figures> counted;       // by each thread
     const std::int64_t most_bytes;      // that all items may take
-    const std::int64_t most_untold;     // how many of them a thread keeps to itself
-    std::atomic<std::int64_t> bytes{0}; // that the items take, but for what threads keep to themselves
+    const std::int64_t most_untold;     // how many of them each thread keeps to itself
+    const std::int64_t bound;           // for the others, beside a thread's own
+    std::atomic<std::int64_t> told{0};  // how many they are
 
 private:
     const secret secret_;
@@ -99,7 +100,7 @@ private:
     figures &mine_;
     hand hand_;
     milliseconds now_ = 0;
-    std::int64_t untold_ = 0; // bytes that the store doesn't know of
+    std::int64_t untold_ = 0; // bytes of items
 };
 
 template <class Function> bool access::read(std::string_view key, Function &&show)
