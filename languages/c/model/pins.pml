@@ -5,10 +5,14 @@
    and queue at any time. They collect at any time, and who comes last collects once more. A reader's note goes through a store buffer,
    as in gate.pml. The clock ticks for each batch alone, so the states repeat. */
 #ifndef READERS
-#define READERS 2
+#define READERS 1
 #endif
 #define WRITERS 2
+#ifdef MORE
 #define OBJECTS 4 /* 1 is there at first; writer 0 puts 2 and 3, writer 1 puts 4 */
+#else
+#define OBJECTS 3 /* writer 0 puts 2, writer 1 puts 3 */
+#endif
 #define STORES 3
 
 byte held = 1;                     /* which object the key has */
@@ -170,9 +174,9 @@ inline collect() {
 #endif
     i = 1;
     do
-    :: i <= OBJECTS && taken[i] -> atomic { assert(!gone[i]); gone[i] = true; taken[i] = false; i++ }
-    :: i <= OBJECTS && !taken[i] -> i++
-    :: else -> break
+    :: atomic { i <= OBJECTS && taken[i] -> assert(!gone[i]); gone[i] = true; taken[i] = false }
+    :: atomic { i <= OBJECTS && !taken[i] -> i++ }
+    :: i > OBJECTS -> break
     od;
     atomic { i = 0; limit = 0; oldest = 0 }
 }
@@ -202,6 +206,6 @@ init {
     atomic {
         run reader(0); run buffer(0);
         if :: READERS > 1 -> run reader(1); run buffer(1) :: else fi;
-        run writer(2, 3); run writer(4, 4); run at_last()
+        run writer(2, OBJECTS - 1); run writer(OBJECTS, OBJECTS); run at_last()
     }
 }
