@@ -9,7 +9,8 @@ namespace {
 
 constexpr int sample = 8;          // so many items are compared, and the oldest is evicted
 constexpr int most_failures = 64;  // in a row, of evictions
-constexpr std::int64_t most_kept = 64 << 10; // bytes that a thread doesn't tell the others of
+// Bytes of items that a thread doesn't tell the others of, and that it has removed and not freed.
+constexpr std::int64_t most_kept = 64 << 10, most_removed = 1 << 20;
 
 // A number as Redis takes it: digits, without a zero or a plus before them.
 bool is_number(std::string_view text, std::int64_t &number) noexcept
@@ -113,6 +114,7 @@ outcome access::increment(std::string_view key, std::int64_t &sum)
 // asked again where another write of the hash came first.
 template <class Decide> outcome access::change(std::string_view key, Decide &&decide)
 {
+    collect();
     const std::uint64_t hash = of_.hash_of(key);
     const auto pinned = of_.items.try_pin();
     if (!pinned.has_value())
@@ -201,6 +203,7 @@ void access::sweep()
 
 void access::count(const extent &before, const extent &after)
 {
+    removed_ += before.bytes;
     mine_.keys.add(after.keys - before.keys);
     mine_.bytes.add(after.bytes - before.bytes);
     mine_.expiring.add(after.expiring - before.expiring);
@@ -209,6 +212,15 @@ void access::count(const extent &before, const extent &after)
         of_.told.fetch_add(untold_, std::memory_order_relaxed);
         untold_ = 0;
     }
+}
+
+// The map frees what was removed by some sixty items at a time. Large ones don't wait for so many.
+void access::collect()
+{
+    if (removed_ < most_removed)
+        return;
+    (void)of_.items.collect();
+    removed_ = 0;
 }
 
 bool access::fits(std::int64_t more) const noexcept

@@ -95,12 +95,14 @@ private:
     bool make_room(std::int64_t more);
     bool evict();
     void count(const extent &before, const extent &after);
+    void collect();
 
     store &of_;
     figures &mine_;
     hand hand_;
     milliseconds now_ = 0;
-    std::int64_t untold_ = 0; // bytes of items
+    std::int64_t untold_ = 0;  // bytes of items
+    std::int64_t removed_ = 0; // bytes of items that may wait to be freed
 };
 
 template <class Function> bool access::read(std::string_view key, Function &&show)

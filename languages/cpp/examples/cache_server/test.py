@@ -278,7 +278,7 @@ def pipelines():
         with server.connect() as client:
             client.ask(ALL_ASKED, ALL_REPLIES)
             client.expect_end()
-        count = many(30000)
+        count = many(10000)
         asked = b"".join(request("INCR", "count") + request("SET", i, i) + request("GET", i) for i in range(count))
         reply = b"".join(number(i + 1) + OK + text(b"%d" % i) for i in range(count))
         with server.connect() as client:
@@ -421,7 +421,7 @@ def limits():
 
 def back_pressure():
     """A client that doesn't read is given no memory without a bound; others are served meanwhile; it gets all its replies."""
-    size, count = 1 << 19, many(400)
+    size, count = 1 << 19, many(200)
     with Server("--threads", 1) as server, server.connect() as client, server.connect() as other:
         client.ask(request("SET", "a", b"x" * size), OK)
         before = server.memory()
@@ -490,7 +490,7 @@ def eviction():
 
 def overwritten():
     """What is overwritten and removed is freed."""
-    value, count = b"x" * 20000, many(20000)
+    value, count = b"x" * 20000, many(10000)
     with Server("--threads", 2) as server, server.connect() as client, server.connect() as other:
         before = server.memory()
         for _ in range(count // 100):
@@ -506,7 +506,7 @@ def increments():
     """By many connections at once each sum is answered once, at one hot key, and with equal hashes."""
     for bits in (63, 0):
         with Server("--hash-bits", bits, "--threads", 4) as server:
-            count, threads = many(1500), 16
+            count, threads = many(1000), 16
             sums = [[] for _ in range(threads)]
 
             def body(i):
@@ -611,12 +611,12 @@ def crowd():
 
 def churn():
     """Overwriting, removing, expiring and evicting at once: each value that is read is one that was written at its key."""
-    with Server("--threads", 4, "--memory", "100k", "--sweep", 10, "--hash-bits", 9) as server:
+    with Server("--threads", 4, "--memory", "30k", "--sweep", 10, "--hash-bits", 9) as server:
 
         def body(i):
             chance = random.Random(i)
             with server.connect() as client:
-                for _ in range(many(60)):
+                for _ in range(many(30)):
                     keys = [b"k%d" % chance.randrange(2000) for _ in range(100)]
                     writes = [chance.choice([request("SET", key, key * chance.randrange(1, 60)), request("DEL", key),
                                              request("SET", key, key, "PX", chance.randrange(1, 30))]) for key in keys]
@@ -675,7 +675,7 @@ def redis_tools():
         ran = subprocess.run(cli, input="PING\nSET q 1\nQUIT\n", capture_output=True, text=True, timeout=PATIENCE)
         assert ran.stdout.startswith("PONG\nOK\n") and ran.returncode == 0, f"{ran}"
         for more in ([], ["-P", "16", "--threads", "2"]):
-            words = ["redis-benchmark", "-p", str(server.port), "-n", str(many(20000)), "-r", "1000", "-t", "ping,set,get,incr", "--csv", *more]
+            words = ["redis-benchmark", "-p", str(server.port), "-n", str(many(5000)), "-r", "1000", "-t", "ping,set,get,incr", "--csv", *more]
             ran = subprocess.run(words, capture_output=True, text=True, timeout=PATIENCE)
             names = re.findall(r'^"([A-Z_]+)",', ran.stdout, re.MULTILINE)
             assert names == ["PING_INLINE", "PING_MBULK", "SET", "GET", "INCR"] and not ran.stderr, f"{ran}"
