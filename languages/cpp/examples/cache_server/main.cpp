@@ -2,12 +2,14 @@
 #include "options.hpp"
 #include "server.hpp"
 
+#include <cerrno>
 #include <csignal>
 #include <exception>
 #include <iostream>
 #include <stdexcept>
 #include <string_view>
 #include <sys/signalfd.h>
+#include <system_error>
 
 namespace {
 
@@ -20,7 +22,10 @@ cache::descriptor signals_to_end()
     sigaddset(&ends, SIGTERM);
     sigaddset(&ends, SIGINT);
     pthread_sigmask(SIG_BLOCK, &ends, nullptr);
-    return cache::descriptor(::signalfd(-1, &ends, SFD_CLOEXEC));
+    cache::descriptor made(::signalfd(-1, &ends, SFD_CLOEXEC));
+    if (!made.is_open())
+        throw std::system_error(errno, std::generic_category(), "signalfd");
+    return made;
 }
 
 } // namespace

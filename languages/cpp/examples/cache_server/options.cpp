@@ -61,7 +61,7 @@ const char *const usage =
     "  --threads N      that serve connections, 1 to 64; 4\n"
     "  --memory N       bytes that all items may take; 256m\n"
     "  --request N      bytes that one request may have; 1m\n"
-    "  --reply N        bytes that one reply may have; 64m\n"
+    "  --reply N        bytes that a reply to MGET may have; 64m\n"
     "  --connections N  at a time; 10000\n"
     "  --sweep N        milliseconds between two walks for expired items; 1000\n"
     "  --hash-bits N    0 to 63: fewer make hashes equal, for tests; 63\n"

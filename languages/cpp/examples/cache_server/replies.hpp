@@ -30,16 +30,16 @@ public:
     void take_back(std::size_t mark) { text_.resize(mark); }
 
     std::string_view unsent() const noexcept { return std::string_view(text_).substr(sent_); }
-    // Memory for many bytes is given back.
+    // What is sent goes when it is the larger part; and when it is all, memory for many bytes, too.
     void sent(std::size_t size)
     {
         sent_ += size;
-        if (sent_ < text_.size())
+        if (sent_ < text_.size() - sent_)
             return;
+        text_.erase(0, sent_);
         sent_ = 0;
-        if (text_.capacity() > most_kept)
+        if (text_.empty() && text_.capacity() > most_kept)
             text_ = std::string();
-        text_.clear();
     }
 
 private:

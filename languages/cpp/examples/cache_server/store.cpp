@@ -2,6 +2,7 @@
 
 #include <algorithm>
 #include <charconv>
+#include <cstdlib>
 
 namespace cache {
 
@@ -188,15 +189,21 @@ void access::sweep()
     samvolip_entry some[64];
     for (int count = 64; count == 64;) {
         count = round.next(some, 64);
-        for (int i = 0; i < count; i++) {
-            const auto pinned = of_.items.pin();
-            const item *one = pinned.get(some[i].key);
-            while (one && !one->is_expired(now_))
-                one = one->next();
-            if (one)
-                drop_expired(one->key());
-        }
+        for (int i = 0; i < count; i++)
+            drop_expired_at(some[i].key);
     }
+}
+
+void access::drop_expired_at(std::uint64_t hash)
+{
+    const auto pinned = of_.items.try_pin();
+    if (!pinned.has_value())
+        return;
+    const item *one = pinned->get(hash);
+    while (one && !one->is_expired(now_))
+        one = one->next();
+    if (one)
+        drop_expired(one->key());
 }
 
 /* ---- memory */
@@ -242,13 +249,15 @@ bool access::make_room(std::int64_t more)
 // Answers whether it did.
 bool access::evict()
 {
+    const auto pinned = of_.items.try_pin();
+    if (!pinned.has_value())
+        return false;
     samvolip_entry some[sample];
-    const int count_of_some = hand_.next(some, sample);
-    const auto pinned = of_.items.pin();
+    const int found = hand_.next(some, sample);
     const item *oldest = nullptr;
     std::uint64_t hash = 0;
-    for (int i = 0; i < count_of_some; i++) {
-        const item *one = pinned.get(some[i].key);
+    for (int i = 0; i < found; i++) {
+        const item *one = pinned->get(some[i].key);
         if (one && (!oldest || age_of(one, now_) > age_of(oldest, now_))) {
             oldest = one;
             hash = some[i].key;

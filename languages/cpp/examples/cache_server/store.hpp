@@ -91,6 +91,7 @@ private:
                      std::unique_ptr<item> &made) const noexcept;
     std::int64_t expired_of(const item *first) const noexcept;
     void drop_expired(std::string_view key);
+    void drop_expired_at(std::uint64_t hash);
     bool fits(std::int64_t more) const noexcept;
     bool make_room(std::int64_t more);
     bool evict();
