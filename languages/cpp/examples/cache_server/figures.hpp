@@ -23,7 +23,7 @@ private:
 // Those of one thread, on lines of their own. Some of them fall below zero, since a thread may remove
 // what another one put; their sum doesn't.
 struct alignas(64) figures {
-    counter keys, bytes, expiring; // what is in the store: items, their memory, how many expire
+    counter keys, bytes, expiring; // in the store: items, their memory, how many of them expire
     counter hits, misses;          // keys that were asked for
     counter evicted, expired;      // items that were removed for want of memory, and by their time
     counter commands;

@@ -60,7 +60,8 @@ std::uint64_t hash_of(const secret &by, std::string_view bytes) noexcept
     const std::size_t whole = bytes.size() / 8 * 8;
     for (std::size_t i = 0; i < whole; i += 8)
         at.take(word_at(bytes.data() + i, 8));
-    at.take(word_at(bytes.data() + whole, bytes.size() - whole) | std::uint64_t(bytes.size()) << 56);
+    const std::uint64_t last = word_at(bytes.data() + whole, bytes.size() - whole);
+    at.take(last | std::uint64_t(bytes.size()) << 56);
     at.v2 ^= 0xff;
     for (int i = 0; i < 3; i++)
         at.round();

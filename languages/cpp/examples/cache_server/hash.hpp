@@ -1,5 +1,5 @@
-// SipHash-1-3 (Aumasson and Bernstein): a hash of bytes by a secret, so that nobody who doesn't know
-// it can choose keys of one hash.
+// SipHash-1-3 (Aumasson and Bernstein): a hash of bytes by a secret, so that nobody who doesn't
+// know it can choose keys of one hash.
 #pragma once
 
 #include <cstdint>

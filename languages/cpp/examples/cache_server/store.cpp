@@ -111,8 +111,8 @@ outcome access::increment(std::string_view key, std::int64_t &sum)
 }
 
 // Asks a function what becomes of a key: it is given the item that is there, if there is one, and
-// makes another, or none, and answers outcome::done; any other answer leaves the key as it is. It is
-// asked again where another write of the hash came first.
+// makes another, or none, and answers outcome::done; any other answer leaves the key as it is. It
+// is asked again where another write of the hash came first.
 template <class Decide> outcome access::change(std::string_view key, Decide &&decide)
 {
     collect();

@@ -1,8 +1,8 @@
 // The cache itself: items by their keys, in a map that all threads call.
 //
-// The map has the items of one hash as one object: an item, or a list of them where several keys have
-// one hash. So a read compares the whole key, and a write puts a new list in place of the one it
-// read, by a compare and exchange of the object, and begins again where another write came first.
+// The map has the items of one hash as one object: an item, or a list of them where several keys
+// have one hash. So a read compares the whole key, and a write puts a new list in place of the one
+// it read, by a compare and exchange of the object, and begins again where another write came first.
 #pragma once
 
 #include "figures.hpp"

@@ -2,9 +2,10 @@
 //
 //     load redis|memcached PORT SECONDS THREADS CONNECTIONS PIPELINE KEYS SIZE SETS
 //
-// Each of the threads has so many connections. On each of these it sends PIPELINE requests at once, and the next ones when all are
-// answered: of ten SETS are sets of SIZE bytes, and the others gets, at one of so many KEYS by chance. With 0 SECONDS each key is set
-// once instead. It prints how many requests were answered in a second, and how many of the gets found something, in percent.
+// Each of the threads has so many connections. On each of these it sends PIPELINE requests at once,
+// and the next ones when all are answered: of ten SETS are sets of SIZE bytes, and the others gets,
+// at one of so many KEYS by chance. With 0 SECONDS each key is set once instead. It prints how many
+// requests were answered in a second, and how many of the gets found something, in percent.
 #include "../descriptor.hpp"
 
 #include <arpa/inet.h>
@@ -203,7 +204,8 @@ void measure(const plan &by)
 int main(int count, char **words)
 {
     if (count != 10) {
-        std::fprintf(stderr, "usage: load redis|memcached PORT SECONDS THREADS CONNECTIONS PIPELINE KEYS SIZE SETS\n");
+        std::fprintf(stderr, "usage: load redis|memcached PORT SECONDS THREADS CONNECTIONS "
+                             "PIPELINE KEYS SIZE SETS\n");
         return 2;
     }
     const auto number = [words](int i) { return std::strtoul(words[i], nullptr, 10); };
