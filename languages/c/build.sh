@@ -13,10 +13,10 @@ version="$(cat "$top/VERSION")"
 name="libsamvolip.so.${version%%.*}"
 [ -f "$archive" ] || { echo "build.sh: first run rt lib in crates/nb_ffi" >&2; exit 1; }
 mkdir -p "$to"
-for source in memory map words; do
+for source in memory map objects words; do
     "${CC:-cc}" -std=gnu11 -O2 -fPIC -Wall -Wextra -I"$here/include" -c "$here/src/$source.c" -o "$to/$source.o"
 done
-parts=("@$here/src/links" "$to"/{memory,map,words}.o -Wl,--whole-archive "$archive" -Wl,--no-whole-archive "$kit/c/liblibc_c.a")
+parts=("@$here/src/links" "$to"/{memory,map,objects,words}.o -Wl,--whole-archive "$archive" -Wl,--no-whole-archive "$kit/c/liblibc_c.a")
 
 printf '{ global: samvolip_*; local: *; };\n' > "$to/samvolip.map"
 rm -f "$to/libsamvolip.so" "$to/$name"
@@ -30,4 +30,4 @@ rm "$to/samvolip.map"
 "${OBJCOPY:-objcopy}" --wildcard --keep-global-symbol='samvolip_*' "$to/samvolip.o"
 rm -f "$to/libsamvolip.a"
 "${AR:-ar}" rcsD "$to/libsamvolip.a" "$to/samvolip.o"
-rm "$to"/{samvolip,memory,map,words}.o
+rm "$to"/{samvolip,memory,map,objects,words}.o

@@ -6,12 +6,13 @@
    has none: membarrier gives it to all threads that run when the gate is closed. So either the one who closes sees the busy word, or
    the call sees the gate. ../model/gate.pml is this for spin, and docs/endless.md tells it in a page. */
 #define _GNU_SOURCE
-#include "samvolip_map.h"
+#include "objects.h"
 #include <linux/membarrier.h>
 #include <pthread.h>
 #include <sched.h>
 #include <stdatomic.h>
 #include <stdbool.h>
+#include <stddef.h>
 #include <stdlib.h>
 #include <string.h>
 #include <sys/random.h>
@@ -62,6 +63,7 @@ typedef struct mixing {
 } mixing;
 
 struct samvolip_map {
+    objects objects; /* of objects.c, where it comes first */
     _Alignas(128) atomic_uint gate; /* this line is what each call reads */
     uint32_t cell;                  /* some maps have the same */
     uint64_t id;                    /* no other map of the process has it, not even later; times KINDS */
@@ -82,6 +84,8 @@ struct samvolip_map {
     samvolip_map_figures figures;
     samvolip_map *after, *before; /* among all maps */
 };
+
+_Static_assert(offsetof(samvolip_map, objects) == 0, "objects.c takes a map for its objects");
 
 /* A walk over a core, by its reserve. */
 struct samvolip_map_walk {
@@ -971,21 +975,39 @@ void samvolip_map_walk_end(samvolip_map_walk *walk)
         go_outside();
 }
 
+/* Shows what is left of a walk, and ends it. */
+static void show_all(samvolip_map_walk *walk, samvolip_map_visit *visit, void *context)
+{
+    uint64_t key, number;
+    while (visit && samvolip_map_walk_next(walk, &key, &number) > 0)
+        visit(context, key, number);
+    bool was_outside = go_inside();
+    end_walk(walk);
+    if (was_outside)
+        go_outside();
+}
+
 int samvolip_map_clear(samvolip_map *map, samvolip_map_visit *visit, void *context)
 {
     samvolip_map_walk walk;
-    uint64_t key, number;
     if (!begin_alone(map))
         return SAMVOLIP_E_NESTED;
     int code = finish_alone(map, exchange(map, exponent_for(map->options.room), &walk));
-    if (code < 0)
-        return code;
-    while (visit && samvolip_map_walk_next(&walk, &key, &number) > 0)
-        visit(context, key, number);
-    bool was_outside = go_inside();
-    end_walk(&walk);
-    if (was_outside)
-        go_outside();
+    if (code >= 0)
+        show_all(&walk, visit, context);
+    return code;
+}
+
+int samvolip_map_each(samvolip_map *map, samvolip_map_visit *visit, void *context)
+{
+    samvolip_map_walk walk;
+    if (!go_inside())
+        return SAMVOLIP_E_NESTED;
+    lock(map);
+    begin_walk(&walk, map);
+    unlock(map);
+    go_outside();
+    show_all(&walk, visit, context);
     return SAMVOLIP_OK;
 }
 
@@ -1132,6 +1154,7 @@ int samvolip_map_open_with(uint32_t version, size_t options_size, size_t figures
     }
     atomic_store(&map->gate, has_membarrier ? OPEN : FENCED);
     enlist(map);
+    objects_begin(&map->objects);
     *made = map;
     return SAMVOLIP_OK;
 }
@@ -1150,6 +1173,7 @@ void samvolip_map_free(samvolip_map *map)
 {
     if (!map)
         return;
+    objects_end(&map->objects);
     pthread_mutex_lock(&all);
     *(map->before ? &map->before->after : &maps) = map->after;
     if (map->after)

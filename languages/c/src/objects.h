@@ -1,0 +1,24 @@
+/* objects.h - what map.c has of objects.c: each map begins with its `objects`. */
+#ifndef OBJECTS_H
+#define OBJECTS_H
+#include "samvolip_objects.h"
+#include <stdatomic.h>
+
+typedef struct objects {
+    _Alignas(128) atomic_ullong clock; /* from 1 on; it ticks when a batch is queued */
+    uint64_t id;                       /* no other map of the process has it, not even later */
+    struct place *places;              /* all that threads have, or had */
+    unsigned owned;                    /* how many places a thread has now */
+    unsigned fresh;                    /* batches that were queued since somebody collected */
+    struct batch *first, **last;       /* the queue, in the order of stamps */
+    atomic_ullong freed;               /* how many objects were */
+    struct objects *after;             /* those of another map */
+} objects;
+
+/* Of a map that is open now. */
+void objects_begin(objects *of);
+
+/* Frees all that was retired. The functions that do it may call the map still. */
+void objects_end(objects *of);
+
+#endif
