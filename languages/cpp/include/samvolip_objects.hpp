@@ -182,10 +182,12 @@ public:
         });
     }
 
-    /* Puts an object at a key that has none, and answers whether it did. Else it is the caller's
-       still. */
+    /* Puts an object at a key that has none, and answers whether it did; if not, it is the caller's
+       still. nullptr is no object. */
     result<bool> insert(std::uint64_t key, std::unique_ptr<T> &&object)
     {
+        if (!object)
+            return false;
         return compare_exchange(key, nullptr, std::move(object));
     }
 
