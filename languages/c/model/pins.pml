@@ -123,8 +123,8 @@ inline queue_open() {
 
 /* All notes that readers have stored are in memory: without membarrier they have seen to that. */
 inline heavy_fence() {
-#ifdef NO_FENCE
-#elif defined(FENCED)
+#if defined(NO_FENCE) || defined(FENCED)
+    skip
 #else
     atomic { for (i : 0 .. READERS - 1) { do :: stores[i] ? from -> note[i] = from :: empty(stores[i]) -> break od } i = 0; from = 0 }
 #endif
