@@ -67,16 +67,21 @@ void of_objects()
         ~object() { alive--; }
         std::uint64_t number;
     };
+    const auto fresh = [](std::uint64_t number) {
+        std::unique_ptr<object> one(new (std::nothrow) object(number));
+        EXPECT(one || ++refusals == 1);
+        return one ? std::move(one) : std::make_unique<object>(number);
+    };
     {
         auto map = made([] { return samvolip::object_map<object>::open(); });
         for (std::uint64_t i = 0; i < 200; i++) {
-            auto next = std::make_unique<object>(i);
+            auto next = fresh(i);
             made([&] { return map.put(i % 50, std::move(next)); });
             EXPECT(!next);
         }
         const auto pin = made([&] { return map.try_pin(); });
         for (std::uint64_t i = 0; i < 100; i++)
-            EXPECT(made([&] { return map.update(7, [](const object *there) { return std::make_unique<object>(there->number + 1); }); }));
+            EXPECT(made([&] { return map.update(7, [&](const object *there) { return fresh(there->number + 1); }); }));
         EXPECT(pin.get(7)->number == 257 && made([&] { return map.erase_if([](std::uint64_t key, const object &) { return key > 20; }); }) == 29);
         for (std::uint64_t i = 0; i < 10; i++)
             EXPECT(made([&] { return map.erase(i); }) && !made([&] { return map.try_emplace(15, i); }));

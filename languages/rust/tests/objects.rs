@@ -2,9 +2,9 @@
 //! while the map is renewed.
 
 use samvolip::{Error, ObjectMap, Operation, Options, Pin, KEY_MAX};
-use std::cell::Cell;
 use std::panic::{catch_unwind, AssertUnwindSafe};
 use std::sync::atomic::{AtomicBool, AtomicU64, Ordering};
+use std::sync::{Arc, Weak};
 use std::thread;
 
 /// How many objects were made and dropped.
@@ -207,25 +207,21 @@ fn other_objects() {
     let pin = units.pin();
     assert!(units.remove(7, &pin) == Some(&()) && units.get(7, &pin).is_none() && units.len() == 99);
 
-    thread_local!(static DROPS: Cell<u64> = const { Cell::new(0) });
-    struct Link<'m>(&'m std::sync::OnceLock<ObjectMap<Link<'m>>>, u64);
-    impl Drop for Link<'_> {
+    struct Link(Weak<ObjectMap<Link>>, u64);
+    impl Drop for Link {
         fn drop(&mut self) {
-            DROPS.with(|drops| drops.set(drops.get() + 1));
-            if let Some(map) = self.0.get().filter(|_| self.1 > 0) {
+            if let Some(map) = self.0.upgrade() {
                 map.remove(self.1, &map.pin());
             }
         }
     }
-    let links = Box::leak(Box::new(std::sync::OnceLock::new()));
-    let links: &'static _ = links;
-    let map = links.get_or_init(ObjectMap::new);
+    let links = Arc::new(ObjectMap::new());
     for key in 1..200 {
-        map.insert(key, Link(links, if key < 199 { key + 1 } else { 0 }), &map.pin());
+        links.insert(key, Link(Arc::downgrade(&links), key + 1), &links.pin());
     }
-    map.remove(1, &map.pin());
-    (0..200).for_each(|_| map.collect());
-    assert!(map.is_empty() && DROPS.with(Cell::get) == 199);
+    links.remove(1, &links.pin());
+    (0..200).for_each(|_| links.collect());
+    assert!(links.is_empty() && links.object_figures().waiting == 0);
 }
 
 /// Eight threads count by copies and insert, remove and read others, while the map is renewed: no count is lost, and each object is
