@@ -58,10 +58,9 @@ static uint64_t opened;
 static pthread_key_t at_end;
 static bool has_membarrier;
 
-/* A full fence in this thread, and in all others that run. Without membarrier each pin has its own. */
+/* A full fence in all threads that run. Without membarrier each pin has its own, and who collects that of the lock. */
 static void heavy_fence(void)
 {
-    atomic_thread_fence(memory_order_seq_cst);
     if (has_membarrier && syscall(__NR_membarrier, MEMBARRIER_CMD_PRIVATE_EXPEDITED, 0, 0) != 0)
         abort();
 }
@@ -108,7 +107,7 @@ static place *find(const objects *of, const void *owner)
     return one;
 }
 
-/* Locked: a place for this thread, that another one had or a new one. */
+/* Locked: a place that a thread has left, or a new one, becomes this thread's. */
 static place *take_place(objects *of)
 {
     place *mine = find(of, NULL);
@@ -158,11 +157,13 @@ int samvolip_map_pin(samvolip_map *map)
     atomic_store_explicit(&mine->pins, atomic_load_explicit(&mine->pins, memory_order_relaxed) + 1, memory_order_relaxed);
     atomic_signal_fence(memory_order_seq_cst);
     if (atomic_load_explicit(&mine->note, memory_order_relaxed) == 0) {
-        atomic_store_explicit(&mine->note, atomic_load_explicit(&of->clock, memory_order_acquire), memory_order_release);
-        atomic_signal_fence(memory_order_seq_cst); /* heavy_fence makes it a full one */
-        if (UNLIKELY(!has_membarrier))
-            atomic_thread_fence(memory_order_seq_cst);
+        uint64_t clock = atomic_load_explicit(&of->clock, memory_order_acquire);
+        if (has_membarrier)
+            atomic_store_explicit(&mine->note, clock, memory_order_release);
+        else
+            atomic_exchange(&mine->note, clock);
     }
+    atomic_signal_fence(memory_order_seq_cst); /* heavy_fence makes it a full one */
     return SAMVOLIP_OK;
 }
 
@@ -333,7 +334,8 @@ static void leave_place(objects *of, place *one)
 static void thread_ends(void *unused)
 {
     (void)unused;
-    begin_locked();
+    if (!begin_locked())
+        return;
     for (objects *of = maps; of; of = of->after) {
         place *mine = find(of, &here);
         if (mine)

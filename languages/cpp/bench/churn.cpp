@@ -1,10 +1,11 @@
 // Objects that come and go, and how many of them are freed.
 //
 //     churn [OBJECTS [LIVE [THREADS]]]          10^6 objects, 10^5 keys and 8 threads by default
+//     churn costs [ROUNDS [CALLS]]              what single calls cost
 //
-// Each thread puts objects at keys in no order, or erases one now and then; and gets two objects under a pin each time, whose content
-// has to be whole. One more thread has the map renewed meanwhile. At the end each object that was made was freed once. It prints what
-// was made, the greatest memory and the figures; `figures` prints what single calls cost.
+// Each thread puts objects at keys in no order, and erases one now and then; and gets two objects under a pin each time, whose content
+// has to be whole. One more thread has the map renewed meanwhile. After each tenth it prints how many objects were made, are in the map
+// and wait, and how much memory there is, which has to stay flat. At the end each object was freed once.
 #include "samvolip_objects.hpp"
 
 #include "../../c/tests/expect.h"
@@ -99,11 +100,62 @@ void run(std::uint64_t count, std::uint64_t live, unsigned threads)
     std::printf("%llu made, %llu freed\n", static_cast<unsigned long long>(made), static_cast<unsigned long long>(freed));
 }
 
+// ---- costs
+
+double now()
+{
+    timespec at;
+    clock_gettime(CLOCK_THREAD_CPUTIME_ID, &at);
+    return 1e9 * double(at.tv_sec) + double(at.tv_nsec);
+}
+
+// The least processor time of a call, in nanoseconds, of some rounds of so many.
+template <class Call> void cost(const char *name, std::uint64_t rounds, std::uint64_t calls, Call &&call)
+{
+    double least = 1e300;
+    for (std::uint64_t round = 0; round < rounds; round++) {
+        const double began = now();
+        for (std::uint64_t i = 0; i < calls; i++)
+            call((i * 389) % 1024);
+        const double took = (now() - began) / double(calls);
+        least = took < least ? took : least;
+    }
+    std::printf("%-50s %6.1f\n", name, least);
+}
+
+void costs(std::uint64_t rounds, std::uint64_t calls)
+{
+    samvolip::options options;
+    options.keys = samvolip::keys::mixed;
+    map objects(options);
+    samvolip_map *const native = objects.native_handle();
+    for (std::uint64_t key = 0; key < 1024; key++)
+        objects.put(key, std::make_unique<object>(key)).value();
+    std::uint64_t number = 0, sum = 0;
+    cost("nothing", rounds, calls, [&](std::uint64_t key) { sum += key; });
+    cost("samvolip_map_pin and unpin", rounds, calls, [&](std::uint64_t) { samvolip_map_pin(native), samvolip_map_unpin(native); });
+    cost("samvolip_map_get", rounds, calls, [&](std::uint64_t key) { samvolip_map_get(native, key, &number); });
+    cost("a pin, a get and what it reads, each time", rounds, calls, [&](std::uint64_t key) { sum += objects.pin().get(key)->key; });
+    {
+        const auto pin = objects.pin();
+        cost("a get and what it reads, under one pin", rounds, calls, [&](std::uint64_t key) { sum += pin.get(key)->key; });
+    }
+    cost("new and delete", rounds, calls, [&](std::uint64_t key) { std::make_unique<object>(key); });
+    cost("new, and a put over what is there", rounds, calls, [&](std::uint64_t key) { objects.put(key, std::make_unique<object>(key)).value(); });
+    samvolip::map numbers(options);
+    for (std::uint64_t key = 0; key < 1024; key++)
+        numbers.insert_or_assign(key, key).value();
+    cost("samvolip_map_put of a number", rounds, calls, [&](std::uint64_t key) { samvolip_map_put(numbers.native_handle(), key, ++sum, &number); });
+}
+
 } // namespace
 
 int main(int count, char **words)
 {
     const auto word = [&](int i, std::uint64_t other) { return count > i ? std::strtoull(words[i], nullptr, 10) : other; };
-    run(word(1, 1000000), word(2, 100000), unsigned(word(3, 8)));
+    if (count > 1 && std::strcmp(words[1], "costs") == 0)
+        costs(word(2, 50), word(3, 100000));
+    else
+        run(word(1, 1000000), word(2, 100000), unsigned(word(3, 8)));
     return 0;
 }
