@@ -128,6 +128,13 @@ static inline int samvolip_map_open(const samvolip_map_options *options, samvoli
    and end later. NULL is no map. */
 void samvolip_map_free(samvolip_map *map);
 
+/*
+ * For an interpreter whose threads take turns by a lock. Before a call of one key, or a guess of the size, waits for a renewal or
+ * makes one, it calls `let_go`, and after that `take_back` with what `let_go` returned; no other call does. Neither may call a map.
+ * It is said before other threads know the map.
+ */
+void samvolip_map_lets_go(samvolip_map *map, void *(*let_go)(void), void (*take_back)(void *));
+
 /* Gives back this thread's seat before the thread ends. It may call again later. */
 void samvolip_map_leave(samvolip_map *map);
 
