@@ -257,6 +257,15 @@ int64_t samvolip_map_remove_word(samvolip_map *map, uint64_t key);
 int64_t samvolip_map_size_word(samvolip_map *map);
 int64_t samvolip_map_size_estimate_word(samvolip_map *map);
 
+/* ---- many keys ----------------------------------------------------------------------------- */
+
+/* The calls put, add and get for so many keys, one after another, each a step of its own. `numbers` has a number for each key; of the
+   last one they are written there, `other` where there is none. Each returns how many calls were made: fewer than `count` if the next
+   one is refused. The same call for that key alone says why. */
+int64_t samvolip_map_put_many(samvolip_map *map, const uint64_t *keys, const uint64_t *numbers, uint64_t count);
+int64_t samvolip_map_add_many(samvolip_map *map, const uint64_t *keys, const uint64_t *numbers, uint64_t count);
+int64_t samvolip_map_get_many(samvolip_map *map, const uint64_t *keys, uint64_t *numbers, uint64_t count, uint64_t other);
+
 /* ------------------------------------------------------------------------------------------- */
 
 /* What a code means, for people. */
