@@ -7,6 +7,7 @@
 #include <pthread.h>
 #include <stdatomic.h>
 #include <stdbool.h>
+#include <unistd.h>
 
 static samvolip_map *open_map(uint64_t room, uint64_t memory)
 {
@@ -124,6 +125,7 @@ static void lets_go_around_waits(void)
 
 int main(void)
 {
+    alarm(60); /* a wait that isn't told would last for ever */
     answers_in_one_word();
     calls_many_keys();
     lets_go_around_waits();

@@ -123,7 +123,7 @@ double time_of(const std::function<number(number, number)> &work, unsigned threa
     std::atomic<number> kept{0};
     for (unsigned t = 0; t < threads; t++)
         all.emplace_back([&, t] {
-            work(t, 100); // a first call of a thread takes longer
+            kept += work(0, keys); // the map is in the caches then
             for (arrived++; arrived < threads;) std::this_thread::yield();
             begun[t] = clock::now();
             kept += work(t * calls, calls);
@@ -152,8 +152,8 @@ template <class Map> void rows_of(std::vector<row> &rows, const char *name, Map 
 
 int main(int count, char **words)
 {
-    const unsigned long rounds = count > 1 ? std::strtoul(words[1], nullptr, 10) : 40;
-    const number calls = count > 2 ? std::strtoul(words[2], nullptr, 10) : 200000;
+    const unsigned long rounds = count > 1 ? std::strtoul(words[1], nullptr, 10) : 150;
+    const number calls = count > 2 ? std::strtoul(words[2], nullptr, 10) : 20000;
     std::vector<row> rows;
     ours secret(samvolip::keys::secret), plain(samvolip::keys::as_they_are);
     locked<std::mutex, std::lock_guard<std::mutex>> behind_mutex;

@@ -15,16 +15,18 @@ import samvolip.SamvolipMap;
 /**
  * What a call takes, in nanoseconds, beside other maps: Cost [MILLISECONDS [TURNS]]. A line is a call of a map, with its keys in order and in
  * none: the best round of all, and the middle one. Each case runs in a virtual machine of its own, so that nothing is compiled for another
- * one's calls, warms up for so many milliseconds, and is measured for as many, by rounds of all keys. The cases go by turns. JCTools' map is
- * among them where it is in the class path.
+ * one's calls, warms up for so many milliseconds, and is measured for as many, by rounds of 1,000 of 10,000 keys. The cases go by turns.
+ * JCTools' map is among them where it is in the class path.
  */
 public final class Cost {
-    private static final int KEYS = 10_000;
+    private static final int KEYS = 10_000, ROUND = 1000;
     private static final List<String> MAPS =
         List.of("SamvolipMap", "the same by batches", "the same, keys as they are", "ConcurrentHashMap", "NonBlockingHashMapLong");
     private static final List<String> CALLS = List.of("get", "put", "add");
     /** What keeps the work from being left out. */
     private static volatile long kept;
+    /** Which round it is: a put puts another number each time. */
+    private static int round;
 
     /** A call with each of these keys. */
     private interface Work {
@@ -45,19 +47,19 @@ public final class Cost {
         if (byBatches) {
             return keys -> {
                 if (call.equals("get")) return map.getMany(keys, 0)[0];
-                if (call.equals("put")) map.putMany(keys, 1000);
+                if (call.equals("put")) map.putMany(keys, round);
                 else map.addMany(keys, 1);
                 return 0;
             };
         }
         if (call.equals("get")) return each(key -> map.getOrDefault(key, 0));
-        return call.equals("put") ? each(key -> map.put(key, 1000).orElse(0)) : each(key -> map.add(key, 1).orElse(0));
+        return call.equals("put") ? each(key -> map.put(key, round).orElse(0)) : each(key -> map.add(key, 1).orElse(0));
     }
 
     private static Work theirs(String call, Map<Long, Long> map) {
         for (long key = 0; key < KEYS; key++) map.put(key, key);
         if (call.equals("get")) return each(key -> map.getOrDefault(key, 0L));
-        return call.equals("put") ? each(key -> map.put(key, 1000L)) : each(key -> map.merge(key, 1L, Long::sum));
+        return call.equals("put") ? each(key -> map.put(key, (long) round)) : each(key -> map.merge(key, 1L, Long::sum));
     }
 
     /** Prints the best and the middle round of a case. */
@@ -72,13 +74,14 @@ public final class Cost {
         List<Long> places = new ArrayList<>();
         for (long key = 0; key < KEYS; key++) places.add(key);
         if (!inOrder) Collections.shuffle(places, new Random(7));
-        long[] keys = places.stream().mapToLong(key -> key).toArray();
+        long[][] keys = new long[KEYS / ROUND][];
+        for (int i = 0; i < keys.length; i++) keys[i] = places.subList(i * ROUND, (i + 1) * ROUND).stream().mapToLong(key -> key).toArray();
         List<Double> rounds = new ArrayList<>();
         long begun = System.nanoTime(), warm = begun + milliseconds * 1_000_000, end = warm + milliseconds * 1_000_000;
-        for (long now = begun; now < end;) {
-            kept = work.with(keys);
+        for (long now = begun; now < end || rounds.isEmpty(); round++) {
+            kept = work.with(keys[round % keys.length]);
             long after = System.nanoTime();
-            if (now >= warm) rounds.add((after - now) / (double) KEYS);
+            if (now >= warm) rounds.add((after - now) / (double) ROUND);
             now = after;
         }
         Collections.sort(rounds);
