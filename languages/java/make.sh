@@ -1,10 +1,11 @@
 #!/usr/bin/env bash
-# Makes samvolip.jar: make.sh FOLDER writes FOLDER/samvolip.jar, and prints a line for each Java that it serves: its version and its folder.
-# It takes a JDK 17 and a JDK 22 or later, as many of the two as there are: in JAVA_HOME, on the PATH, in /usr/lib/jvm. With both, the jar
-# serves both.
+# Makes samvolip.jar: make.sh FOLDER [LIBRARY] writes FOLDER/samvolip.jar, with LIBRARY in it, if that is named, which is the file
+# libsamvolip.so. It prints a line for each Java that the jar serves: its version and its folder. It takes a JDK 17 and a JDK 22 or later, as
+# many of the two as there are: in JAVA_HOME, on the PATH, in /usr/lib/jvm. With both, the jar serves both.
 set -euo pipefail
 here="$(cd "$(dirname "${BASH_SOURCE[0]}")" && pwd)"
-to="${1:?make.sh FOLDER}"
+to="${1:?make.sh FOLDER [LIBRARY]}"
+library="${2:-}"
 mkdir -p "$to"
 to="$(cd "$to" && pwd)"
 
@@ -39,6 +40,7 @@ if [ -n "$old" ]; then
 else
     "${new#* }/bin/javac" --release 22 -d "$made/base" "$here"/samvolip/*.java "$here"/java22/samvolip/*.java
 fi
+[ -z "$library" ] || cp "$library" "$made/base/samvolip/libsamvolip.so"
 tools="${new:-$old}"
 "${tools#* }/bin/jar" --create --file "$to/samvolip.jar" --manifest "$made/manifest" -C "$made/base" . ${more[@]+"${more[@]}"}
 for java in "$old" "$new"; do [ -z "$java" ] || echo "$java"; done

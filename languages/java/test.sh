@@ -25,12 +25,24 @@ while read -r version home; do
     "$home/bin/java" "${flags[@]}" -Dsamvolip="$(dirname "$library")" Visits > "$made/told" 2> "$made/errors" || { cat "$made/errors"; fail "the example of Java $version fails"; }
     diff "$here/examples/Visits.out" "$made/told" || fail "the example of Java $version prints something else"
 
+    "$home/bin/java" "${flags[@]}" -Dsamvolip="$library" Cost case 1 add false 20 > "$made/told" 2>&1 || fail "the benchmark of Java $version fails"
+
     if [ -n "$guava" ]; then
         "$home/bin/javac" --release $release -cp "$made/samvolip.jar$guava" -d "$made/$version" "$here"/tests/GuavaTest.java
         "$home/bin/java" "${flags[@]}" -cp "$made/samvolip.jar:$made/$version$guava" -Dsamvolip="$library" GuavaTest > "$made/told" 2> "$made/errors" \
             || { cat "$made/errors"; fail "Guava's tests fail with Java $version"; }
         echo "Java $version: $(cat "$made/told")"
     fi
+
+    # the same with the library in the jar, which leaves no file behind
+    mkdir -p "$made/samvolip" "$made/temporary"
+    cp "$library" "$made/samvolip/libsamvolip.so"
+    cp "$made/samvolip.jar" "$made/whole.jar"
+    "$home/bin/jar" --update --file "$made/whole.jar" -C "$made" samvolip/libsamvolip.so
+    "$home/bin/java" "${flags[@]}" -cp "$made/whole.jar:$made/$version" -Djava.io.tmpdir="$made/temporary" Visits > "$made/told" 2> "$made/errors" \
+        || { cat "$made/errors"; fail "the example of Java $version fails with the library in the jar"; }
+    diff "$here/examples/Visits.out" "$made/told" || fail "the example of Java $version prints something else with the library in the jar"
+    [ -z "$(ls "$made/temporary")" ] || fail "Java $version leaves files behind"
 
     # the same with the jar as a module
     modules=(-p "$made/samvolip.jar" --add-modules samvolip -cp "$made/$version" -Dsamvolip="$library")
@@ -48,6 +60,7 @@ while read -r version home; do
     }
     told "libsamvolip.so isn't found. Say where it is by -Dsamvolip=FILE" "${flags[@]}" -Djava.library.path=/none
     told "-Dsamvolip=/none is no libsamvolip.so that can be loaded" "${flags[@]}" -Dsamvolip=/none
+    told "the jar's libsamvolip.so can't be loaded from java.io.tmpdir" "${flags[@]}" -cp "$made/whole.jar:$made/$version" -Djava.io.tmpdir=/none
     if [ "$version" = 17 ]; then
         told "Java 17 has to be started with --add-modules" -cp "$made/samvolip.jar:$made/$version" -Dsamvolip="$library"
         told "Java 17 has to be started with --add-modules" -cp "$made/samvolip.jar:$made/$version" --add-modules jdk.incubator.foreign \

@@ -128,6 +128,13 @@ static inline int samvolip_map_open(const samvolip_map_options *options, samvoli
    and end later. NULL is no map. */
 void samvolip_map_free(samvolip_map *map);
 
+/*
+ * For an interpreter whose threads take turns by a lock. Before a call of one key, or a guess of the size, waits for a renewal or
+ * makes one, it calls `let_go`, and after that `take_back` with what `let_go` returned; no other call does. Neither may call a map.
+ * It is said before other threads know the map.
+ */
+void samvolip_map_lets_go(samvolip_map *map, void *(*let_go)(void), void (*take_back)(void *));
+
 /* Gives back this thread's seat before the thread ends. It may call again later. */
 void samvolip_map_leave(samvolip_map *map);
 
@@ -249,6 +256,15 @@ int64_t samvolip_map_replace_word(samvolip_map *map, uint64_t key, uint64_t numb
 int64_t samvolip_map_remove_word(samvolip_map *map, uint64_t key);
 int64_t samvolip_map_size_word(samvolip_map *map);
 int64_t samvolip_map_size_estimate_word(samvolip_map *map);
+
+/* ---- many keys ----------------------------------------------------------------------------- */
+
+/* The calls put, add and get for so many keys, one after another, each a step of its own. `numbers` has a number for each key; of the
+   last one they are written there, `other` where there is none. Each returns how many calls were made: fewer than `count` if the next
+   one is refused. The same call for that key alone says why. */
+int64_t samvolip_map_put_many(samvolip_map *map, const uint64_t *keys, const uint64_t *numbers, uint64_t count);
+int64_t samvolip_map_add_many(samvolip_map *map, const uint64_t *keys, const uint64_t *numbers, uint64_t count);
+int64_t samvolip_map_get_many(samvolip_map *map, const uint64_t *keys, uint64_t *numbers, uint64_t count, uint64_t other);
 
 /* ------------------------------------------------------------------------------------------- */
 

@@ -82,6 +82,8 @@ struct samvolip_map {
     atomic_uint taken;              /* lanes with an owner */
     samvolip_map_options options;
     samvolip_map_figures figures;
+    void *(*let_go)(void); /* samvolip_map_lets_go; NULL: nothing is let go of */
+    void (*take_back)(void *);
     samvolip_map *after, *before; /* among all maps */
 };
 
@@ -410,6 +412,26 @@ static void rest_lane(void)
     atomic_store(&here.busy, WAITS);
 }
 
+/* Around what may take long in a call of one key: the caller lets go of what others may want. Nothing of the map is held meanwhile. */
+static void *let_go(const samvolip_map *map) { return map->let_go ? map->let_go() : NULL; }
+
+static void take_back(const samvolip_map *map, void *held)
+{
+    if (map->take_back)
+        map->take_back(held);
+}
+
+/* Inside, by no lane: waits until the gate lets such calls in, and helps meanwhile if it has a lane. */
+static void wait_for_gate(samvolip_map *map, unsigned what, lane *mine)
+{
+    void *held = let_go(map);
+    lock(map);
+    while (!admits(map, what))
+        wait_or_help(map, mine);
+    unlock(map);
+    take_back(map, held);
+}
+
 /* Inside: what enter does, but for the common case. */
 static COLD lane *enter_slowly(samvolip_map *map, unsigned what)
 {
@@ -422,10 +444,8 @@ static COLD lane *enter_slowly(samvolip_map *map, unsigned what)
         rest_lane();
         for (unsigned turn = 0; turn < 64 && atomic_load(&map->gate) == CLOSED; turn++)
             rest(turn);
-        lock(map);
-        while (!admits(map, what))
-            wait_or_help(map, mine);
-        unlock(map);
+        if (!admits(map, what))
+            wait_for_gate(map, what, mine);
     }
 }
 
@@ -686,9 +706,13 @@ static COLD bool renew_after(samvolip_map *map, int *code)
     uint64_t cores = map->cores; /* the core can't be exchanged before the lane rests */
     int refused = SAMVOLIP_OK;
     rest_lane();
-    if ((is_full || !map->alone) && be_alone(map, &cores)) {
-        refused = renew(map, is_full ? FULL : TIME, 0);
-        end_alone(map);
+    if (is_full || !map->alone) {
+        void *held = let_go(map);
+        if (be_alone(map, &cores)) {
+            refused = renew(map, is_full ? FULL : TIME, 0);
+            end_alone(map);
+        }
+        take_back(map, held);
     }
     go_outside();
     if (is_full && refused < 0)
@@ -1157,6 +1181,12 @@ int samvolip_map_open_with(uint32_t version, size_t options_size, size_t figures
     objects_begin(&map->objects);
     *made = map;
     return SAMVOLIP_OK;
+}
+
+void samvolip_map_lets_go(samvolip_map *map, void *(*let_go)(void), void (*take_back)(void *))
+{
+    map->let_go = let_go;
+    map->take_back = take_back;
 }
 
 void samvolip_map_leave(samvolip_map *map)

@@ -1,4 +1,4 @@
-/* words.c - the calls of samvolip_map.h that answer in one word, and a walk by many entries at a time. */
+/* words.c - the calls of samvolip_map.h that answer in one word, and those of many keys or entries at a time. */
 #include "samvolip_map.h"
 
 /* What a call has found, by its code. */
@@ -38,6 +38,37 @@ int64_t samvolip_map_size_estimate_word(samvolip_map *map)
     uint64_t size = 0;
     int code = samvolip_map_size_estimate(map, &size);
     return code < 0 ? code : (int64_t)size;
+}
+
+/* Makes `call` for each key, up to the first one that is refused. */
+#define MANY(call)                                                                                                                   \
+    int64_t made = 0;                                                                                                                \
+    while ((uint64_t)made < count && (call) >= 0)                                                                                    \
+        made++;                                                                                                                      \
+    return made;
+
+int64_t samvolip_map_put_many(samvolip_map *map, const uint64_t *keys, const uint64_t *numbers, uint64_t count)
+{
+    MANY(samvolip_map_put(map, keys[made], numbers[made], NULL))
+}
+
+int64_t samvolip_map_add_many(samvolip_map *map, const uint64_t *keys, const uint64_t *numbers, uint64_t count)
+{
+    MANY(samvolip_map_add(map, keys[made], numbers[made], NULL))
+}
+
+/* A get whose number is `other` if there is none. */
+static inline int get_or(samvolip_map *map, uint64_t key, uint64_t other, uint64_t *number)
+{
+    int code = samvolip_map_get(map, key, number);
+    if (code == SAMVOLIP_ABSENT)
+        *number = other;
+    return code;
+}
+
+int64_t samvolip_map_get_many(samvolip_map *map, const uint64_t *keys, uint64_t *numbers, uint64_t count, uint64_t other)
+{
+    MANY(get_or(map, keys[made], other, &numbers[made]))
 }
 
 int samvolip_map_walk_some(samvolip_map_walk *walk, samvolip_entry *entries, int room)

@@ -19,6 +19,7 @@ final class Functions {
     static final MethodHandle FREE = Native.function("samvolip_map_free", false, void.class, L);
     static final MethodHandle LEAVE = Native.function("samvolip_map_leave", false, void.class, L);
     static final MethodHandle GET = Native.function("samvolip_map_get_word", true, L, L, L);
+    static final MethodHandle GET_TELLING = Native.function("samvolip_map_get_word", false, L, L, L);
     static final MethodHandle PUT = Native.function("samvolip_map_put_word", false, L, L, L, L);
     static final MethodHandle PUT_IF_ABSENT = Native.function("samvolip_map_put_if_absent_word", false, L, L, L, L);
     static final MethodHandle FETCH_MAX = Native.function("samvolip_map_fetch_max_word", false, L, L, L, L);
@@ -28,6 +29,9 @@ final class Functions {
     static final MethodHandle REPLACE_IF = Native.function("samvolip_map_replace_if", false, I, L, L, L, L);
     static final MethodHandle REMOVE = Native.function("samvolip_map_remove_word", false, L, L, L);
     static final MethodHandle REMOVE_IF = Native.function("samvolip_map_remove_if", false, I, L, L, L);
+    static final MethodHandle GET_MANY = Native.function("samvolip_map_get_many", false, L, L, L, L, L, L);
+    static final MethodHandle PUT_MANY = Native.function("samvolip_map_put_many", false, L, L, L, L, L);
+    static final MethodHandle ADD_MANY = Native.function("samvolip_map_add_many", false, L, L, L, L, L);
     static final MethodHandle SIZE = Native.function("samvolip_map_size_word", false, L, L);
     static final MethodHandle SIZE_ESTIMATE = Native.function("samvolip_map_size_estimate_word", true, L, L);
     static final MethodHandle CLEAR = Native.function("samvolip_map_clear", false, I, L, L, L);

@@ -1,6 +1,11 @@
 package samvolip;
 
 import java.io.File;
+import java.io.IOException;
+import java.io.InputStream;
+import java.nio.file.Files;
+import java.nio.file.Path;
+import java.nio.file.StandardCopyOption;
 import java.util.NoSuchElementException;
 
 /** Finds libsamvolip.so, and says what is missing where it can't. */
@@ -32,6 +37,7 @@ final class Library {
             file = System.getenv("SAMVOLIP_LIB");
             told = "SAMVOLIP_LIB=" + file;
         }
+        if (file == null && loadFromJar()) return;
         try {
             if (file == null) System.loadLibrary("samvolip");
             else System.load(inFolder(new File(file)).getAbsolutePath());
@@ -40,6 +46,23 @@ final class Library {
                 ? "libsamvolip.so isn't found. Say where it is by -Dsamvolip=FILE or by SAMVOLIP_LIB=FILE, or put it into a folder of java.library.path, which is "
                     + System.getProperty("java.library.path")
                 : told + " is no libsamvolip.so that can be loaded: " + failed.getMessage(), failed);
+        }
+    }
+
+    /** Loads the library that the jar has in it, and answers whether it has one. It is a file for as long as that takes. */
+    private static boolean loadFromJar() {
+        try (InputStream library = Library.class.getResourceAsStream("libsamvolip.so")) {
+            if (library == null) return false;
+            Path file = Files.createTempFile("libsamvolip", ".so");
+            try {
+                Files.copy(library, file, StandardCopyOption.REPLACE_EXISTING);
+                System.load(file.toString());
+            } finally {
+                Files.delete(file);
+            }
+            return true;
+        } catch (IOException | UnsatisfiedLinkError failed) {
+            throw wrong("the jar's libsamvolip.so can't be loaded from java.io.tmpdir; -Dsamvolip=FILE names another one: " + failed.getMessage(), failed);
         }
     }
 

@@ -3,7 +3,6 @@ package samvolip;
 import static samvolip.Functions.NONE;
 import static samvolip.Functions.PRESENT;
 import static samvolip.Functions.made;
-import static samvolip.Functions.wrong;
 
 import java.lang.invoke.MethodHandle;
 import java.lang.ref.Cleaner;
@@ -33,6 +32,8 @@ public final class SamvolipMap implements AutoCloseable, Iterable<Entry> {
     private final long at;
     private final Cleaner.Cleanable freed;
     private volatile boolean isClosed;
+    /** Whether its table may come to be full: then a read of a key that isn't there may take long. */
+    private boolean mayBeFull;
 
     /** What a call does with each key and its number. */
     @FunctionalInterface
@@ -56,6 +57,7 @@ public final class SamvolipMap implements AutoCloseable, Iterable<Entry> {
         Library.load();
         long at = open(options);
         this.at = at;
+        mayBeFull = options.memory() != 0;
         freed = Cleaners.CLEANER.register(this, () -> free(at));
     }
 
@@ -71,7 +73,7 @@ public final class SamvolipMap implements AutoCloseable, Iterable<Entry> {
                 words + Functions.OPTIONS_SIZE));
             return Native.getLong(words + Functions.OPTIONS_SIZE);
         } catch (Throwable thrown) {
-            throw wrong(thrown);
+            throw Functions.wrong(thrown);
         } finally {
             Native.free(words);
         }
@@ -81,7 +83,7 @@ public final class SamvolipMap implements AutoCloseable, Iterable<Entry> {
         try {
             Functions.FREE.invokeExact(at);
         } catch (Throwable thrown) {
-            throw wrong(thrown);
+            throw Functions.wrong(thrown);
         }
     }
 
@@ -103,6 +105,12 @@ public final class SamvolipMap implements AutoCloseable, Iterable<Entry> {
         }
     }
 
+    /** What a call threw, to be thrown on. */
+    private RuntimeException wrong(Throwable thrown) {
+        if (thrown instanceof Refused refused && refused.code() == Code.E_OUT_OF_MEMORY) mayBeFull = true;
+        return Functions.wrong(thrown);
+    }
+
     private static OptionalLong found(long word) {
         return word == NONE ? OptionalLong.empty() : OptionalLong.of(word);
     }
@@ -115,7 +123,7 @@ public final class SamvolipMap implements AutoCloseable, Iterable<Entry> {
     /** What is at a key, or another number. */
     public long getOrDefault(long key, long other) {
         try {
-            long word = made((long) Functions.GET.invokeExact(at(), key));
+            long word = made(mayBeFull ? (long) Functions.GET_TELLING.invokeExact(at(), key) : (long) Functions.GET.invokeExact(at(), key));
             return word == NONE ? other : word;
         } catch (Throwable thrown) {
             throw wrong(thrown);
@@ -269,6 +277,34 @@ public final class SamvolipMap implements AutoCloseable, Iterable<Entry> {
             long made = join.applyAsLong(found.getAsLong(), number);
             if (replace(key, found.getAsLong(), made)) return made;
         }
+    }
+
+    /** The number at each key, or another one. Each is a read of its own. */
+    public long[] getMany(long[] keys, long other) {
+        return Many.get(this, keys, other, !mayBeFull);
+    }
+
+    /**
+     * Puts at each key the number of the same place, one after another: each is a call of its own. If one is refused, those before it were
+     * made, and the text says how many.
+     */
+    public void putMany(long[] keys, long[] numbers) {
+        Many.write(this, Functions.PUT_MANY, keys, numbers, place -> put(keys[place], numbers[place]));
+    }
+
+    /** The same with one number for all. */
+    public void putMany(long[] keys, long number) {
+        Many.write(this, Functions.PUT_MANY, keys, number, place -> put(keys[place], number));
+    }
+
+    /** Adds at each key the number of the same place, as {@link #putMany(long[], long[])} puts it. */
+    public void addMany(long[] keys, long[] numbers) {
+        Many.write(this, Functions.ADD_MANY, keys, numbers, place -> add(keys[place], numbers[place]));
+    }
+
+    /** The same with one number for all. */
+    public void addMany(long[] keys, long number) {
+        Many.write(this, Functions.ADD_MANY, keys, number, place -> add(keys[place], number));
     }
 
     /** How many keys there are. Exact: writes wait for some microseconds. */

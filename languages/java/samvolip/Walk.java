@@ -74,7 +74,7 @@ final class Walk implements Iterator<Entry> {
         try {
             next = 0;
             count = made((int) Functions.WALK_SOME.invokeExact(held.walk, held.entries, SOME));
-            for (int i = 0; i < 2 * count; i++) some[i] = Native.getLong(held.entries + 8L * i);
+            Native.read(held.entries, some, 0, 2 * count);
         } catch (Throwable thrown) {
             throw wrong(thrown);
         } finally {

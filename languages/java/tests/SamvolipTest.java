@@ -148,6 +148,76 @@ public final class SamvolipTest {
         }
     }
 
+    /** Batches of no key, of a few and of many parts; and where one of their calls is refused. */
+    private static void batches() {
+        for (Options options : new Options[] {new Options().withRoom(10), new Options().withMemory(1 << 24)}) {
+            try (SamvolipMap map = new SamvolipMap(options)) {
+                for (int count : new int[] {0, 1, 255, 256, 257, 4096, 10000}) {
+                    long[] keys = new long[count], numbers = new long[count];
+                    Arrays.setAll(keys, i -> i * 65536L);
+                    Arrays.setAll(numbers, i -> i);
+                    map.clear();
+                    map.putMany(keys, numbers);
+                    expect(map.size(), (long) count);
+                    expect(Arrays.equals(map.getMany(keys, -7), numbers));
+                    map.addMany(keys, numbers);
+                    map.addMany(keys, 5);
+                    Arrays.setAll(numbers, i -> 2 * i + 5);
+                    expect(Arrays.equals(map.getMany(keys, -7), numbers));
+                    map.putMany(keys, 9);
+                    map.remove(0);
+                    Arrays.setAll(numbers, i -> i == 0 ? -7 : 9);
+                    expect(Arrays.equals(map.getMany(keys, -7), numbers));
+                }
+                map.clear();
+                long[] keys = {1, 2, -1, 3};
+                expect(refused(() -> map.putMany(keys, 1)), Code.E_KEY_RANGE);
+                expect(refused(() -> map.getMany(keys, 0)), Code.E_KEY_RANGE);
+                expect(map.snapshot().size(), 2);
+                expect(refused(() -> map.putMany(new long[] {4}, -1)), Code.E_VALUE_RANGE);
+                expect(refused(() -> map.addMany(new long[] {5, 1, 6}, new long[] {1, Keys.VALUE_MAX, 1})), Code.E_SUM_RANGE);
+                expect(map.getMany(new long[] {1, 5, 6}, 0)[1] == 1 && !map.containsKey(6));
+                try {
+                    map.addMany(new long[] {7, 7, 7}, new long[] {Keys.VALUE_MAX, 0, 1});
+                    throw new AssertionError();
+                } catch (Refused refused) {
+                    expect(refused.getMessage(), "sum too large at place 2; the calls before it were made (E_SUM_RANGE)");
+                }
+                expect(throwsAs(IllegalArgumentException.class, () -> map.putMany(new long[2], new long[3])));
+                map.close();
+                expect(illegal(() -> map.getMany(new long[0], 0)), "the map was closed");
+                expect(illegal(() -> map.addMany(new long[0], 0)), "the map was closed");
+            }
+        }
+        try (SamvolipMap map = new SamvolipMap(new Options().withRoom(20).withMemory(3 * 512))) { // a table of 32 slots, and one of 64
+            long[] keys = new long[100];
+            Arrays.setAll(keys, i -> i);
+            expect(refused(() -> map.putMany(keys, keys)), Code.E_OUT_OF_MEMORY);
+            int size = (int) map.size();
+            expect(size >= 32 && size <= 64);
+            for (int i = 0; i < 100; i++) expect(map.getMany(keys, -1)[i] == (i < size ? i : -1));
+        }
+    }
+
+    /** Batches by eight threads through renewals: each sum is exact, and no read shows less than was there. */
+    private static void batchesBesideThreads() throws InterruptedException {
+        try (SamvolipMap map = new SamvolipMap(new Options().withRoom(10).withGrowth(2))) {
+            threads(8, me -> {
+                long[] keys = new long[1000], seen = new long[1000];
+                for (int round = 0; round < 40; round++) {
+                    for (int i = 0; i < 1000; i++) keys[i] = (round % 10 * 1000 + i) * 65536L;
+                    map.addMany(keys, 1);
+                    seen = map.getMany(keys, 0);
+                    for (long number : seen) expect(number > round / 10 && number <= 32);
+                }
+            });
+            long[] keys = new long[10000];
+            Arrays.setAll(keys, i -> i * 65536L);
+            expect(Arrays.stream(map.getMany(keys, 0)).allMatch(number -> number == 32) && map.size() == 10000);
+            expect(map.figures().renewals() > 3);
+        }
+    }
+
     /** It grows from few slots and shrinks again, and no key is lost. */
     private static void growsAndShrinks() {
         try (SamvolipMap map = new SamvolipMap(new Options().withRoom(10))) {
@@ -231,6 +301,45 @@ public final class SamvolipTest {
         try (SamvolipMap map = new SamvolipMap()) {
             for (int i = 0; i < 2000; i++) CompletableFuture.runAsync(() -> map.add(7, 1), ForkJoinPool.commonPool()).get();
             expect(map.get(7), of(2000));
+        }
+    }
+
+    /** Virtual threads walk, one walk within another, rest in the middle of it, and go on by whichever thread is free; others write meanwhile. */
+    private static void virtualThreads() throws Exception {
+        if (Runtime.version().feature() < 21) return;
+        ExecutorService pool = (ExecutorService) Executors.class.getMethod("newVirtualThreadPerTaskExecutor").invoke(null);
+        try (SamvolipMap map = new SamvolipMap(new Options().withRoom(10).withGrowth(2).withThreads(2))) {
+            long[] kept = new long[100];
+            Arrays.setAll(kept, i -> i);
+            map.putMany(kept, kept);
+            List<Future<?>> tasks = new ArrayList<>();
+            for (int i = 0; i < 300; i++) {
+                final long me = i;
+                tasks.add(pool.submit(() -> {
+                    for (long key = 0; key < 50; key++) map.put(1000 + 50 * me + key, me);
+                    int shown = 0;
+                    for (Entry entry : map) {
+                        if (entry.key() >= 100) continue;
+                        shown++;
+                        if (entry.key() % 25 == 0) {
+                            Thread.sleep(1);
+                            long[] all = new long[1];
+                            map.forEach((key, number) -> all[0] += key < 100 ? 1 : 0);
+                            expect(all[0], 100L);
+                        }
+                    }
+                    expect(shown, 100);
+                    expect(Arrays.equals(map.getMany(kept, -1), kept));
+                    map.add(500, 1);
+                    return null;
+                }));
+            }
+            for (Future<?> task : tasks) task.get();
+            expect(map.get(500), of(300));
+            expect(map.size(), 100 + 1 + 300 * 50L);
+            expect(map.figures().renewals() > 3);
+        } finally {
+            pool.shutdown();
         }
     }
 
@@ -429,10 +538,13 @@ public final class SamvolipTest {
             eachCall(map);
         }
         options();
+        batches();
         growsAndShrinks();
         eightThreads();
+        batchesBesideThreads();
         manyThreads();
         pools();
+        virtualThreads();
         walks();
         walksOverRenewals();
         view();

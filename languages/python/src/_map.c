@@ -1,8 +1,9 @@
 /* _map.c - the map of samvolip_map.h as a type of Python, over the stable ABI of CPython 3.10. samvolip/__init__.py makes a
    MutableMapping of it.
 
-   A call of one key keeps the interpreter's lock, since to let go of it and take it again costs more than the call. What may take
-   long lets go of it: batches, and calls of the whole map. No call of the map waits for a thread that needs the interpreter's lock.
+   A call of one key keeps the interpreter's lock, since to let go of it and take it again costs more than the call, unless it has to
+   wait or renews the map. What may take long lets go of it from the beginning: batches, and calls of the whole map. No call of the map
+   waits for a thread that needs the interpreter's lock.
 
    No key and no number goes to the map that it would refuse for its range: key_of and value_of raise first. */
 #define Py_LIMITED_API 0x030a0000
@@ -19,6 +20,28 @@ typedef struct Map {
     PyObject_HEAD
     samvolip_map *map; /* NULL until __init__ opens it */
 } Map;
+
+/* ---- the interpreter's lock ---------------------------------------------------------------- */
+
+/* Whether this thread has let go of it, in a call of a map. */
+static _Thread_local bool has_let_go;
+
+static void *let_go(void)
+{
+    if (has_let_go)
+        return NULL;
+    has_let_go = true;
+    return PyEval_SaveThread();
+}
+
+/* NULL: it was let go of before, and whoever did so takes it back. */
+static void take_back(void *state)
+{
+    if (!state)
+        return;
+    PyEval_RestoreThread(state);
+    has_let_go = false;
+}
 
 /* ---- what is given ------------------------------------------------------------------------- */
 
@@ -339,11 +362,10 @@ static bool run(const batch *all, each *call)
     int code = SAMVOLIP_OK;
     for (size_t from = 0; from < all->count;) {
         size_t to = all->count - from > PART ? from + PART : all->count;
-        PyThreadState *state = all->count > FEW ? PyEval_SaveThread() : NULL;
+        void *state = all->count > FEW ? let_go() : NULL;
         while (from < to && (code = call(all, from)) >= 0)
             from++;
-        if (state)
-            PyEval_RestoreThread(state);
+        take_back(state);
         if (code < 0)
             PyErr_Format(code == SAMVOLIP_E_OUT_OF_MEMORY ? PyExc_MemoryError : code == SAMVOLIP_E_SUM_RANGE ? PyExc_OverflowError : PyExc_RuntimeError,
                          "%s at key %llu; the %zu calls before it were made", samvolip_map_strerror(code), (unsigned long long)all->keys[from], from);
@@ -398,9 +420,9 @@ static Py_ssize_t map_length(PyObject *self)
     int code = SAMVOLIP_OK;
     if (!map)
         return -1;
-    Py_BEGIN_ALLOW_THREADS
+    void *state = let_go();
     code = samvolip_map_size(map, &size);
-    Py_END_ALLOW_THREADS
+    take_back(state);
     return code < 0 ? (refuse(code), -1) : (Py_ssize_t)size;
 }
 
@@ -422,9 +444,9 @@ static PyObject *map_clear(PyObject *self, PyObject *unused)
     (void)unused;
     if (!map)
         return NULL;
-    Py_BEGIN_ALLOW_THREADS
+    void *state = let_go();
     code = samvolip_map_clear(map, NULL, NULL);
-    Py_END_ALLOW_THREADS
+    take_back(state);
     return nothing(code);
 }
 
@@ -435,9 +457,9 @@ static PyObject *map_renew(PyObject *self, PyObject *const *args, Py_ssize_t cou
     int code;
     if (!map || !takes("renew", count, 0, 1) || (count == 1 && !read_number(args[0], UINT64_MAX, "the room", "the room is from 0 to 2**64 - 1", &room)))
         return NULL;
-    Py_BEGIN_ALLOW_THREADS
+    void *state = let_go();
     code = samvolip_map_renew(map, room);
-    Py_END_ALLOW_THREADS
+    take_back(state);
     return nothing(code);
 }
 
@@ -459,9 +481,9 @@ static PyObject *map_look(PyObject *self, PyObject *unused)
     (void)unused;
     if (!map)
         return NULL;
-    Py_BEGIN_ALLOW_THREADS
+    void *state = let_go();
     code = samvolip_map_look(map, &at);
-    Py_END_ALLOW_THREADS
+    take_back(state);
     if (code < 0)
         return refuse(code);
     return Py_BuildValue("KKKKKKKK", at.renewals, at.refused, at.write_stop, at.read_stop, at.all_stops, at.slots, at.keys, at.own_threads);
@@ -477,7 +499,7 @@ static PyObject *map_snapshot_words(PyObject *self, PyObject *unused)
     (void)unused;
     if (!map)
         return NULL;
-    Py_BEGIN_ALLOW_THREADS
+    void *state = let_go();
     while (code == SAMVOLIP_E_ROOM && (code = samvolip_map_snapshot(map, entries, room, &count)) == SAMVOLIP_E_ROOM) {
         free(entries);
         room = count + count / 8 + 64; /* others may add keys */
@@ -485,7 +507,7 @@ static PyObject *map_snapshot_words(PyObject *self, PyObject *unused)
         if (!entries)
             code = SAMVOLIP_E_OUT_OF_MEMORY;
     }
-    Py_END_ALLOW_THREADS
+    take_back(state);
     PyObject *made = code < 0 ? refuse(code) : PyBytes_FromStringAndSize((const char *)entries, (Py_ssize_t)(count * sizeof *entries));
     free(entries);
     return made;
@@ -505,13 +527,21 @@ static int map_init(PyObject *itself, PyObject *args, PyObject *named)
     for (Py_ssize_t i = 0; i < 5 && i < PyTuple_Size(args); i++)
         if (!read_number(PyTuple_GetItem(args, i), i < 2 ? UINT64_MAX : UINT32_MAX, "an option", "an option isn't negative, nor so large", &read[i]))
             return -1;
+    samvolip_map_options options = {read[0], read[1], (uint32_t)read[2], (uint32_t)read[3], (uint32_t)read[4]};
+    samvolip_map *map = NULL;
+    void *state = let_go();
+    int code = samvolip_map_open(&options, &map);
+    take_back(state);
+    if (code < 0)
+        return refuse(code), -1;
     if (self->map) {
+        samvolip_map_free(map);
         PyErr_SetString(PyExc_ValueError, "the map is open");
         return -1;
     }
-    samvolip_map_options options = {read[0], read[1], (uint32_t)read[2], (uint32_t)read[3], (uint32_t)read[4]};
-    int code = samvolip_map_open(&options, &self->map);
-    return code < 0 ? (refuse(code), -1) : 0;
+    samvolip_map_lets_go(map, let_go, take_back);
+    self->map = map;
+    return 0;
 }
 
 static void map_dealloc(PyObject *self)

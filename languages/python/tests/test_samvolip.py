@@ -615,6 +615,41 @@ class Threads(unittest.TestCase):
             renewing.join()
         self.assertEqual((len(m), {m[key] for key in range(500)}), (506, {2 * sum(rounds)}))
 
+    def test_lets_go(self):
+        """A put that makes the map anew, or waits for that, lets go of the interpreter's lock, and no other call of a key does."""
+        m, turns, goes_on = Map(threads=2), [0], [True]
+
+        def count():
+            while goes_on[0]:
+                turns[0] += 1
+                time.sleep(0)
+
+        interval, counting = sys.getswitchinterval(), threading.Thread(target=count)
+        sys.setswitchinterval(1000)  # only who lets go of it gives a turn to others
+        try:
+            counting.start()
+            while turns[0] == 0:
+                time.sleep(0)
+            before = turns[0]
+            for key in range(200):
+                m[key] = key
+                m.add(key)
+            self.assertEqual((turns[0], m.figures().renewals), (before, 0))
+            before = turns[0]
+            for key in range(200, 300_000):
+                m[key] = key
+            self.assertTrue(turns[0] > before)
+        finally:
+            sys.setswitchinterval(interval)
+            goes_on[0] = False
+            counting.join()
+        self.assertEqual(len(m), 300_000)
+
+        # who puts by one key waits for who renews by another: none of them keeps the lock from the others
+        m = Map(growth=2, threads=2)
+        run_all(6, lambda number: [m.put(number + 6 * i, i) for i in range(30_000)])
+        self.assertEqual((len(m), sum(m.values())), (180_000, 6 * sum(range(30_000))))
+
     def test_contended(self):
         m = Map()
         interval = sys.getswitchinterval()

@@ -1,6 +1,7 @@
 //! What a call takes, in nanoseconds, beside a `HashMap` of std behind a `Mutex` or an `RwLock`: by one thread, and by several
 //! that call at once. Each figure is the best of some rounds, so that it holds on a busy machine, too. Build it with --release.
-//! `cost THREADS` says how many several are; else it is 4.
+//! `cost THREADS` says how many several are; else it is 4. `bench/Cargo.toml` builds it with dashmap beside.
+#![allow(unexpected_cfgs)]
 
 use samvolip::{Keys, Map, Options};
 use std::collections::HashMap;
@@ -23,9 +24,9 @@ fn main() {
     let (secret, plain) = (map(Keys::Secret), map(Keys::AsTheyAre));
     let mutex: Mutex<HashMap<u64, u64>> = Mutex::new(entries().collect());
     let rwlock: RwLock<HashMap<u64, u64>> = RwLock::new(entries().collect());
-    println!("{:28} {:>8} {:>10}", "", "1 thread", format!("{several} threads"));
+    println!("{:34} {:>8} {:>10}", "", "1 thread", format!("{several} threads"));
     let tell = |name: &str, call: &(dyn Fn(u64) -> Option<u64> + Sync)| {
-        println!("{name:28} {:8.1} {:10.1}", cost(1, 300, 2000, call), cost(several, 100, 20_000, call));
+        println!("{name:34} {:8.1} {:10.1}", cost(1, 300, 2000, call), cost(several, 100, 20_000, call));
     };
     tell("get, Map", &|key| secret.get(key));
     tell("get, Map, keys as they are", &|key| plain.get(key));
@@ -39,6 +40,18 @@ fn main() {
         let value = mutex.lock().unwrap().remove(&key).unwrap_or(0);
         mutex.lock().unwrap().insert(key, value)
     });
+    #[cfg(feature = "dashmap")]
+    {
+        let own: dashmap5::DashMap<_, _> = entries().collect();
+        let fx: dashmap5::DashMap<_, _, fxhash::FxBuildHasher> = entries().collect();
+        let next = |found: &mut u64| std::mem::replace(found, *found + 1);
+        tell("get, dashmap", &|key| own.get(&key).map(|found| *found));
+        tell("get, dashmap with fxhash", &|key| fx.get(&key).map(|found| *found));
+        tell("add, dashmap", &|key| own.get_mut(&key).map(|mut found| next(&mut found)));
+        tell("add, dashmap with fxhash", &|key| fx.get_mut(&key).map(|mut found| next(&mut found)));
+        tell("remove and insert, dashmap", &|key| own.remove(&key).and_then(|(_, value)| own.insert(key, value)));
+        tell("the same, dashmap with fxhash", &|key| fx.remove(&key).and_then(|(_, value)| fx.insert(key, value)));
+    }
 }
 
 /// What one of so many threads takes for a call, while the others call: the best of so many rounds of so many calls. A round goes

@@ -35,6 +35,13 @@ final class Native {
         return LINKER.downcallHandle(at, MethodType.methodType(answer, takes), function);
     }
 
+    /** Whether a function of C can read and write an array where it is. */
+    static final boolean TAKES_ARRAYS = false;
+
+    static long getMany(long map, long[] keys, long[] numbers, int from, int count, long other) {
+        throw new UnsupportedOperationException();
+    }
+
     private static MemoryLayout layout(Class<?> type) {
         return type == int.class ? CLinker.C_INT : CLinker.C_LONG;
     }
@@ -60,6 +67,20 @@ final class Native {
 
     static long getLong(long at) {
         return MemoryAccess.getLongAtOffset(ALL, at);
+    }
+
+    /** So many longs of C's memory, from the first on, into an array from a place on. */
+    static void read(long at, long[] into, int from, int count) {
+        part(into, from, count).copyFrom(ALL.asSlice(at, 8L * count));
+    }
+
+    /** The other way round. */
+    static void write(long[] of, int from, int count, long at) {
+        ALL.asSlice(at, 8L * count).copyFrom(part(of, from, count));
+    }
+
+    private static MemorySegment part(long[] all, int from, int count) {
+        return MemorySegment.ofArray(all).asSlice(8L * from, 8L * count);
     }
 
     static void setLong(long at, long number) {

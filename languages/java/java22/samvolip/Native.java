@@ -32,6 +32,19 @@ final class Native {
         return quick ? LINKER.downcallHandle(at, function, Linker.Option.critical(false)) : LINKER.downcallHandle(at, function);
     }
 
+    /** Whether {@link #getMany} is there. */
+    static final boolean TAKES_ARRAYS = true;
+
+    private static final MethodHandle GET_MANY = LINKER.downcallHandle(SymbolLookup.loaderLookup().find("samvolip_map_get_many").orElseThrow(),
+        FunctionDescriptor.of(ValueLayout.JAVA_LONG, ValueLayout.JAVA_LONG, ValueLayout.ADDRESS, ValueLayout.ADDRESS, ValueLayout.JAVA_LONG, ValueLayout.JAVA_LONG),
+        Linker.Option.critical(true));
+
+    /** C's function of this name, which ends soon, for so many keys from a place on: it reads and writes the arrays where they are. */
+    static long getMany(long map, long[] keys, long[] numbers, int from, int count, long other) throws Throwable {
+        MemorySegment of = MemorySegment.ofArray(keys).asSlice(8L * from), into = MemorySegment.ofArray(numbers).asSlice(8L * from);
+        return (long) GET_MANY.invokeExact(map, of, into, (long) count, other);
+    }
+
     private static MemoryLayout layout(Class<?> type) {
         return type == int.class ? ValueLayout.JAVA_INT : ValueLayout.JAVA_LONG;
     }
@@ -57,6 +70,16 @@ final class Native {
 
     static long getLong(long at) {
         return ALL.get(ValueLayout.JAVA_LONG, at);
+    }
+
+    /** So many longs of C's memory, from the first on, into an array from a place on. */
+    static void read(long at, long[] into, int from, int count) {
+        MemorySegment.copy(ALL, ValueLayout.JAVA_LONG, at, into, from, count);
+    }
+
+    /** The other way round. */
+    static void write(long[] of, int from, int count, long at) {
+        MemorySegment.copy(of, from, ALL, ValueLayout.JAVA_LONG, at, count);
     }
 
     static void setLong(long at, long number) {
