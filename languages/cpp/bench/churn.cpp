@@ -83,6 +83,24 @@ void renew(map &objects, std::atomic<std::uint64_t> &most, const std::atomic<boo
     }
 }
 
+void run_part(map &objects, std::uint64_t count, std::uint64_t live, unsigned threads, unsigned part)
+{
+    std::vector<std::thread> writers, readers;
+    std::atomic<bool> is_written{false};
+    for (unsigned i = 0; i < threads; i++)
+        writers.emplace_back([&, i] { churn(objects, count / threads, live, part * threads + i + 1); });
+    for (unsigned i = 1; i <= 2; i++)
+        readers.emplace_back([&, i] { read(objects, live, i, is_written); });
+    for (std::thread &one : writers)
+        one.join();
+    is_written = true;
+    for (std::thread &one : readers)
+        one.join();
+    objects.collect().value();
+}
+
+unsigned long long plain(std::uint64_t number) { return number; }
+
 void run(std::uint64_t count, std::uint64_t live, unsigned threads)
 {
     {
@@ -91,36 +109,27 @@ void run(std::uint64_t count, std::uint64_t live, unsigned threads)
         std::atomic<std::uint64_t> waited{0};
         std::thread renewer([&] { renew(objects, waited, is_over); });
         const auto began = std::chrono::steady_clock::now();
-        double most = 0, first = 0;
+        double first = 0, most_waited = 0;
         for (unsigned part = 0; part < 10; part++) {
-            std::vector<std::thread> all, readers;
-            std::atomic<bool> is_written{false};
-            for (unsigned i = 0; i < threads; i++)
-                all.emplace_back([&, i] { churn(objects, count / threads / 10, live, part * threads + i + 1); });
-            for (unsigned i = 1; i <= 2; i++)
-                readers.emplace_back([&, i] { read(objects, live, i, is_written); });
-            for (std::thread &one : all)
-                one.join();
-            is_written = true;
-            for (std::thread &one : readers)
-                one.join();
-            objects.collect().value();
+            run_part(objects, count / 10, live, threads, part);
             const double present = expect_mebibytes().present;
-            first = part == 2 ? present : first;
-            most = present > most ? present : most;
-            std::printf("%3u %%: %llu made, %llu live, at most %llu waited, %.1f MiB\n", 10 * part + 10, static_cast<unsigned long long>(made),
-                        static_cast<unsigned long long>(objects.size().value()), static_cast<unsigned long long>(waited.exchange(0)), present);
+            const std::uint64_t waiting = waited.exchange(0);
+            std::printf("%3u %%: %llu made, %llu live, at most %llu waited, %.1f MiB\n", 10 * part + 10, plain(made),
+                        plain(objects.size().value()), plain(waiting), present);
             EXPECT(objects.object_figures().value().waiting == 0); // nobody pins, and all threads have ended
+            first = part == 2 ? present : first;
+            most_waited = double(waiting) > most_waited ? double(waiting) : most_waited;
+            // a renewal has two tables, and a thread that is preempted while it pins keeps what is retired meanwhile
+            EXPECT(part < 3 || present <= first * 1.25 + 32 + most_waited * 1e-4);
         }
         is_over = true;
         renewer.join();
-        EXPECT(most <= first * 1.25 + 32); // renewals have two tables for a moment
         const std::chrono::duration<double> took = std::chrono::steady_clock::now() - began;
         std::printf("%.1f seconds, %.0f s of processor, %llu renewals\n", took.count(), double(std::clock()) / CLOCKS_PER_SEC,
-                    static_cast<unsigned long long>(objects.figures().value().renewals));
+                    plain(objects.figures().value().renewals));
     }
     EXPECT(made == freed);
-    std::printf("%llu made, %llu freed\n", static_cast<unsigned long long>(made), static_cast<unsigned long long>(freed));
+    std::printf("%llu made, %llu freed\n", plain(made), plain(freed));
 }
 
 // ---- costs
