@@ -3,9 +3,10 @@
 //     churn [OBJECTS [LIVE [THREADS]]]          10^6 objects, 10^5 keys and 8 threads by default
 //     churn costs [ROUNDS [CALLS]]              what single calls cost
 //
-// Each thread puts objects at keys in no order, and erases one now and then; and gets two objects under a pin each time, whose content
-// has to be whole. One more thread has the map renewed meanwhile. After each tenth it prints how many objects were made, are in the map
-// and wait, and how much memory there is, which has to stay flat. At the end each object was freed once.
+// Each thread puts objects at keys in no order, and erases one now and then; and gets two objects under a pin each time. Two more threads
+// get a hundred objects under each of their pins. What is got has to be whole. One thread has the map renewed meanwhile. After each tenth
+// it prints how many objects were made, how many are in the map, how many were seen to wait, and how much memory there is, which has to
+// stay flat; then none waits. At the end each object was freed once.
 #include "samvolip_objects.hpp"
 
 #include "../../c/tests/expect.h"
@@ -59,45 +60,76 @@ void churn(map &objects, std::uint64_t count, std::uint64_t live, std::uint64_t 
     }
 }
 
-void renew(map &objects, const std::atomic<bool> &is_over)
+void read(const map &objects, std::uint64_t live, std::uint64_t number, const std::atomic<bool> &is_over)
+{
+    std::uint64_t state = number;
+    while (!is_over) {
+        const object *seen[100];
+        const auto pin = objects.pin();
+        for (const object *&one : seen)
+            one = pin.get(next(state) % live);
+        for (const object *one : seen)
+            EXPECT(!one || one->check == ~one->key);
+    }
+}
+
+void renew(map &objects, std::atomic<std::uint64_t> &most, const std::atomic<bool> &is_over)
 {
     while (!is_over) {
         objects.renew().value();
+        const std::uint64_t waiting = objects.object_figures().value().waiting;
+        most = waiting > most ? waiting : std::uint64_t{most};
         std::this_thread::sleep_for(std::chrono::milliseconds(IS_SANITIZED ? 5 : 100));
     }
 }
+
+void run_part(map &objects, std::uint64_t count, std::uint64_t live, unsigned threads, unsigned part)
+{
+    std::vector<std::thread> writers, readers;
+    std::atomic<bool> is_written{false};
+    for (unsigned i = 0; i < threads; i++)
+        writers.emplace_back([&, i] { churn(objects, count / threads, live, part * threads + i + 1); });
+    for (unsigned i = 1; i <= 2; i++)
+        readers.emplace_back([&, i] { read(objects, live, i, is_written); });
+    for (std::thread &one : writers)
+        one.join();
+    is_written = true;
+    for (std::thread &one : readers)
+        one.join();
+    objects.collect().value();
+}
+
+unsigned long long plain(std::uint64_t number) { return number; }
 
 void run(std::uint64_t count, std::uint64_t live, unsigned threads)
 {
     {
         map objects;
         std::atomic<bool> is_over{false};
-        std::thread renewer([&] { renew(objects, is_over); });
+        std::atomic<std::uint64_t> waited{0};
+        std::thread renewer([&] { renew(objects, waited, is_over); });
         const auto began = std::chrono::steady_clock::now();
-        double most = 0, first = 0;
+        double first = 0, most_waited = 0;
         for (unsigned part = 0; part < 10; part++) {
-            std::vector<std::thread> all;
-            for (unsigned i = 0; i < threads; i++)
-                all.emplace_back([&, i] { churn(objects, count / threads / 10, live, part * threads + i + 1); });
-            for (std::thread &one : all)
-                one.join();
+            run_part(objects, count / 10, live, threads, part);
             const double present = expect_mebibytes().present;
+            const std::uint64_t waiting = waited.exchange(0);
+            std::printf("%3u %%: %llu made, %llu live, at most %llu waited, %.1f MiB\n", 10 * part + 10, plain(made),
+                        plain(objects.size().value()), plain(waiting), present);
+            EXPECT(objects.object_figures().value().waiting == 0); // nobody pins, and all threads have ended
             first = part == 2 ? present : first;
-            most = present > most ? present : most;
-            const auto waiting = objects.object_figures().value().waiting;
-            std::printf("%3u %%: %llu made, %llu live, %llu wait, %.1f MiB\n", 10 * part + 10, static_cast<unsigned long long>(made),
-                        static_cast<unsigned long long>(objects.size().value()), static_cast<unsigned long long>(waiting), present);
-            EXPECT(waiting <= 62 * 2 * (threads + 8)); // nobody pins
+            most_waited = double(waiting) > most_waited ? double(waiting) : most_waited;
+            // a renewal has two tables, and a thread that is preempted while it pins keeps what is retired meanwhile
+            EXPECT(part < 3 || present <= first * 1.25 + 32 + most_waited * 1e-4);
         }
         is_over = true;
         renewer.join();
-        EXPECT(most <= first * 1.25 + 32); // renewals have two tables for a moment
         const std::chrono::duration<double> took = std::chrono::steady_clock::now() - began;
         std::printf("%.1f seconds, %.0f s of processor, %llu renewals\n", took.count(), double(std::clock()) / CLOCKS_PER_SEC,
-                    static_cast<unsigned long long>(objects.figures().value().renewals));
+                    plain(objects.figures().value().renewals));
     }
     EXPECT(made == freed);
-    std::printf("%llu made, %llu freed\n", static_cast<unsigned long long>(made), static_cast<unsigned long long>(freed));
+    std::printf("%llu made, %llu freed\n", plain(made), plain(freed));
 }
 
 // ---- costs

@@ -333,8 +333,13 @@ public:
 
     /* ---- */
 
-    /* Gives back this thread's seat, as its end does. It may call again. */
-    void leave() { map_.leave(); }
+    /* Gives back this thread's seat, and shows others what it has retired, as its end does. It may
+       call again. */
+    void leave()
+    {
+        samvolip_map_collect(native_handle());
+        map_.leave();
+    }
 
     /* For the functions of samvolip_map.h and samvolip_objects.h. */
     samvolip_map *native_handle() const noexcept { return map_.native_handle(); }
