@@ -502,7 +502,7 @@ def eviction():
         told = client.figures()
         keys = int(re.match(r"keys=(\d+),", told["db0"]).group(1))
         assert keys + int(told["evicted_keys"]) == count + hot, f"{told}"
-        assert int(told["used_memory"]) > most * 3 / 4 and keys > 1000, f"{told}"
+        assert int(told["used_memory"]) > most * 0.9 and keys > 1000, f"{told}"
         client.ask(request("DBSIZE"), number(keys))
         client.send(request("EXISTS", *(f"hot{i}" for i in range(hot))))
         stayed = int(client.line()[1:])
