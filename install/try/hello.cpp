@@ -1,8 +1,9 @@
-// A program of C++ for .ci/installed: four threads add to one map.
+// A program of C++ for .ci/installed: four threads add to one map, and an object of another one is printed.
 #include <array>
 #include <cstdint>
 #include <cstdio>
-#include <samvolip.hpp>
+#include <memory>
+#include <samvolip_objects.hpp>
 #include <thread>
 
 int main()
@@ -16,5 +17,7 @@ int main()
         });
     for (auto &thread : threads)
         thread.join();
-    std::printf("%d keys, %d at 7\n", static_cast<int>(map.size().value()), static_cast<int>(map.get(7).value().value()));
+    samvolip::object_map<int> objects;
+    objects.put(7, std::make_unique<int>(map.get(7).value().value())).value();
+    std::printf("%d keys, %d at 7\n", static_cast<int>(map.size().value()), *objects.pin().get(7));
 }

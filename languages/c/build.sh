@@ -1,8 +1,8 @@
 #!/usr/bin/env bash
 # Makes libraries that need no kit of libnb_ffi.a, which `rt lib` builds in crates/nb_ffi: build.sh [FOLDER] writes to FOLDER (out/
-# here by default) libsamvolip.so, with the file that it stands for, and libsamvolip.a. Both show the names of samvolip.h and
-# samvolip_map.h and no others. Beside the proved part they have their own memory for large tables (src/memory.c) and the map without
-# an end (src/map.c). KIT is the kit's folder, CC the compiler.
+# here by default) libsamvolip.so, with the file that it stands for, and libsamvolip.a. Both show the names of samvolip.h,
+# samvolip_map.h and samvolip_objects.h and no others. Beside the proved part they have their own memory for large tables
+# (src/memory.c), the map without an end (src/map.c) and its objects (src/objects.c). KIT is the kit's folder, CC the compiler.
 set -euo pipefail
 here="$(cd "$(dirname "${BASH_SOURCE[0]}")" && pwd)"
 to="${1:-$here/out}"

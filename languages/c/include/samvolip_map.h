@@ -5,7 +5,7 @@
  * reserved when it is opened, a removed key keeps its slot, and only threads with a seat may call.
  * This one puts a new map in its place when it gets full, larger or smaller, and gives each thread
  * its seat. This layer is C: its protocol is model-checked, its code is tested, and docs/endless.md
- * says which is which.
+ * says which is which. Where numbers are addresses of objects, samvolip_objects.h frees them.
  *
  *
  * A map in four lines

@@ -30,6 +30,10 @@
  * samvolip_map_free. A thread may retire while it pins. It remembers up to 61 objects before it
  * shows them to others; collect, and the thread's end, show them.
  *
+ * A walk that is to show objects begins after the pin, and ends before it. samvolip_map_clear shows
+ * `visit` what is out already, for it to retire: where memory may be refused, keys are rather removed
+ * one by one, after samvolip_map_ready.
+ *
  * A pin also keeps an address from coming again: a compare_exchange that expects a pointer which was
  * got under the pin finds that very object.
  *

@@ -7,11 +7,11 @@
 #ifndef READERS
 #define READERS 1
 #endif
+#ifndef WRITERS
 #define WRITERS 2
-#ifdef MORE
-#define OBJECTS 4 /* 1 is there at first; writer 0 puts 2 and 3, writer 1 puts 4 */
-#else
-#define OBJECTS 3 /* writer 0 puts 2, writer 1 puts 3 */
+#endif
+#ifndef OBJECTS
+#define OBJECTS 3 /* 1 is there at first; of two writers one puts the last, and the other those between */
 #endif
 #define STORES 3
 
@@ -123,8 +123,8 @@ inline queue_open() {
 
 /* All notes that readers have stored are in memory: without membarrier they have seen to that. */
 inline heavy_fence() {
-#ifdef NO_FENCE
-#elif defined(FENCED)
+#if defined(NO_FENCE) || defined(FENCED)
+    skip
 #else
     atomic { for (i : 0 .. READERS - 1) { do :: stores[i] ? from -> note[i] = from :: empty(stores[i]) -> break od } i = 0; from = 0 }
 #endif
@@ -206,6 +206,7 @@ init {
     atomic {
         run reader(0); run buffer(0);
         if :: READERS > 1 -> run reader(1); run buffer(1) :: else fi;
-        run writer(2, OBJECTS - 1); run writer(OBJECTS, OBJECTS); run at_last()
+        if :: WRITERS > 1 -> run writer(2, OBJECTS - 1); run writer(OBJECTS, OBJECTS) :: else -> run writer(2, OBJECTS) fi;
+        run at_last()
     }
 }

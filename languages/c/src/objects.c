@@ -1,8 +1,8 @@
 /* objects.c - the pins of samvolip_objects.h, and what was retired, in C and not proved.
 
    A thread that pins a map notes what the map's clock shows. What it retires goes to its open batch. A full batch gets the clock's next
-   tick for a stamp, and waits in the map's queue. Who collects looks at all notes, and frees the batches whose stamps none of them is
-   earlier than.
+   tick for a stamp, and waits in the map's queue. Who collects looks at all notes, and frees the batches whose stamp is no later than
+   any of them.
 
    An object is out of the map before its batch is stamped. So a pin whose note is that stamp, or later, began when the object was out,
    and can't have it. A pin with an earlier note may have it, and keeps the batch, if who collects sees the note. For that a pin needs a
@@ -52,16 +52,15 @@ static _Thread_local struct thread {
 } here __attribute__((tls_model("initial-exec")));
 
 static pthread_once_t once = PTHREAD_ONCE_INIT;
-static pthread_mutex_t lock = PTHREAD_MUTEX_INITIALIZER; /* of what all maps have, but for notes and counts */
+static pthread_mutex_t lock = PTHREAD_MUTEX_INITIALIZER; /* of what all maps have; nobody takes memory with it, nor calls others */
 static objects *maps;
 static uint64_t opened;
 static pthread_key_t at_end;
 static bool has_membarrier;
 
-/* A full fence in this thread, and in all others that run. Without membarrier each pin has its own. */
+/* A full fence in all threads that run. Without membarrier each pin has its own, and who collects that of the lock. */
 static void heavy_fence(void)
 {
-    atomic_thread_fence(memory_order_seq_cst);
     if (has_membarrier && syscall(__NR_membarrier, MEMBARRIER_CMD_PRIVATE_EXPEDITED, 0, 0) != 0)
         abort();
 }
@@ -108,37 +107,41 @@ static place *find(const objects *of, const void *owner)
     return one;
 }
 
-/* Locked: a place for this thread, that another one had or a new one. */
-static place *take_place(objects *of)
+/* Inside: this thread's place, or one that another thread has left, or a new one; NULL without memory. */
+static place *get_place(objects *of)
 {
-    place *mine = find(of, NULL);
-    if (!mine && (mine = aligned_alloc(128, sizeof *mine))) {
-        *mine = (place){.after = of->places};
-        of->places = mine;
-    }
-    if (mine) {
+    pthread_mutex_lock(&lock);
+    place *mine = find(of, &here);
+    if (!mine && (mine = find(of, NULL))) {
         mine->owner = &here;
         of->owned++;
     }
+    pthread_mutex_unlock(&lock);
+    if (mine || !(mine = aligned_alloc(128, sizeof *mine)))
+        return mine;
+    *mine = (place){.owner = &here};
+    pthread_mutex_lock(&lock);
+    mine->after = of->places;
+    of->places = mine;
+    of->owned++;
+    pthread_mutex_unlock(&lock);
     return mine;
 }
 
 /* This thread's place, where it isn't in its cell. A handler may look into the cell between any two steps. */
 static __attribute__((cold, noinline)) place *look_for_place(objects *of)
 {
-    if (!begin_locked())
+    if (!go_inside())
         return NULL;
-    place *mine = find(of, &here);
-    if (!mine && pthread_setspecific(at_end, &here) == 0)
-        mine = take_place(of);
+    place *mine = pthread_setspecific(at_end, &here) == 0 ? get_place(of) : NULL;
     here.ids[of->id % CELLS] = 0;
     here.places[of->id % CELLS] = mine;
     here.ids[of->id % CELLS] = mine ? of->id : 0;
-    end_locked();
+    go_outside();
     return mine;
 }
 
-/* This thread's place; NULL inside, or without memory. The cell's id is read last: it shows if a handler has put another place there. */
+/* This thread's place; NULL inside, or without memory. The cell's id is read last: it shows if a handler has changed the cell. */
 static inline place *own_place(objects *of)
 {
     place *mine = here.places[of->id % CELLS];
@@ -158,11 +161,13 @@ int samvolip_map_pin(samvolip_map *map)
     atomic_store_explicit(&mine->pins, atomic_load_explicit(&mine->pins, memory_order_relaxed) + 1, memory_order_relaxed);
     atomic_signal_fence(memory_order_seq_cst);
     if (atomic_load_explicit(&mine->note, memory_order_relaxed) == 0) {
-        atomic_store_explicit(&mine->note, atomic_load_explicit(&of->clock, memory_order_acquire), memory_order_release);
-        atomic_signal_fence(memory_order_seq_cst); /* heavy_fence makes it a full one */
-        if (UNLIKELY(!has_membarrier))
-            atomic_thread_fence(memory_order_seq_cst);
+        uint64_t clock = atomic_load_explicit(&of->clock, memory_order_acquire);
+        if (has_membarrier)
+            atomic_store_explicit(&mine->note, clock, memory_order_release);
+        else
+            atomic_exchange(&mine->note, clock);
     }
+    atomic_signal_fence(memory_order_seq_cst); /* heavy_fence makes it a full one */
     return SAMVOLIP_OK;
 }
 
@@ -266,8 +271,8 @@ static bool add(objects *of, place *mine, struct retired out)
 {
     uint64_t count = mine->open->count;
     mine->open->all[count] = out;
-    atomic_store_explicit(&mine->open->count, count + 1, memory_order_release);
     atomic_store_explicit(&mine->retired, mine->retired + 1, memory_order_release);
+    atomic_store_explicit(&mine->open->count, count + 1, memory_order_release);
     if (count + 1 < BATCH)
         return false;
     pthread_mutex_lock(&lock);
@@ -333,7 +338,8 @@ static void leave_place(objects *of, place *one)
 static void thread_ends(void *unused)
 {
     (void)unused;
-    begin_locked();
+    if (!begin_locked())
+        return;
     for (objects *of = maps; of; of = of->after) {
         place *mine = find(of, &here);
         if (mine)

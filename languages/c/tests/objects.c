@@ -33,9 +33,18 @@ static object *new_object(uint64_t key)
     return fresh;
 }
 
+/* The thread sanitizer doesn't see how the proved map orders a put and a get. */
+#ifdef __SANITIZE_THREAD__
+void __tsan_acquire(void *), __tsan_release(void *);
+#else
+#define __tsan_acquire(pointer) (void)(pointer)
+#define __tsan_release(pointer) (void)(pointer)
+#endif
+
 static void free_object(void *pointer)
 {
     object *gone = pointer;
+    __tsan_acquire(gone);
     EXPECT(gone->check == ~gone->key);
     gone->check = gone->key;
     freed++;
@@ -64,14 +73,6 @@ static void end(samvolip_map *map)
     samvolip_map_free(map);
     EXPECT(made == freed);
 }
-
-/* The thread sanitizer doesn't see how the proved map orders a put and a get. */
-#ifdef __SANITIZE_THREAD__
-void __tsan_acquire(void *), __tsan_release(void *);
-#else
-#define __tsan_acquire(pointer) (void)(pointer)
-#define __tsan_release(pointer) (void)(pointer)
-#endif
 
 static object *get(samvolip_map *map, uint64_t key)
 {

@@ -146,7 +146,7 @@ public:
     {
         if (native_handle())
             samvolip_map_each(native_handle(), [](void *, std::uint64_t, std::uint64_t number) {
-                deletes(reinterpret_cast<void *>(number));
+                delete inside::object_of<T>(number);
             }, nullptr);
     }
 
@@ -182,10 +182,12 @@ public:
         });
     }
 
-    /* Puts an object at a key that has none, and answers whether it did. Else it is the caller's
-       still. */
+    /* Puts an object at a key that has none, and answers whether it did; if not, it is the caller's
+       still. nullptr is no object. */
     result<bool> insert(std::uint64_t key, std::unique_ptr<T> &&object)
     {
+        if (!object)
+            return false;
         return compare_exchange(key, nullptr, std::move(object));
     }
 
@@ -331,8 +333,13 @@ public:
 
     /* ---- */
 
-    /* Gives back this thread's seat, as its end does. It may call again. */
-    void leave() { map_.leave(); }
+    /* Gives back this thread's seat, and shows others what it has retired, as its end does. It may
+       call again. */
+    void leave()
+    {
+        samvolip_map_collect(native_handle());
+        map_.leave();
+    }
 
     /* For the functions of samvolip_map.h and samvolip_objects.h. */
     samvolip_map *native_handle() const noexcept { return map_.native_handle(); }
@@ -340,7 +347,11 @@ public:
 private:
     explicit object_map(samvolip::map made) noexcept : map_(std::move(made)) {}
 
-    static void deletes(void *object) { delete static_cast<T *>(object); }
+    static void deletes(void *object)
+    {
+        inside::tell_got(object);
+        delete static_cast<T *>(object);
+    }
 
     /* Makes a write, which returns PRESENT if it took out the object that it wrote to its argument;
        and retires that. The memory for it is taken before. */

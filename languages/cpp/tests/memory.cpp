@@ -1,5 +1,6 @@
 // Every call of C++ that takes memory, made again where it is refused. Run under .ci/refuse.c, with each request refused in turn:
 // nothing is lost by a refusal, and all memory is given back. It prints nothing, since that takes memory too.
+#include "samvolip_objects.hpp"
 #include "samvolip_seats.hpp"
 
 #include "../../c/tests/expect.h"
@@ -57,6 +58,38 @@ void of_a_map()
     EXPECT(moved.get(1).value() == 1u);
 }
 
+// Objects that are overwritten, updated and erased: more of them than one piece of memory remembers.
+void of_objects()
+{
+    static int alive;
+    struct object {
+        explicit object(std::uint64_t number) : number(number) { alive++; }
+        ~object() { alive--; }
+        std::uint64_t number;
+    };
+    const auto fresh = [](std::uint64_t number) {
+        std::unique_ptr<object> one(new (std::nothrow) object(number));
+        EXPECT(one || ++refusals == 1);
+        return one ? std::move(one) : std::make_unique<object>(number);
+    };
+    {
+        auto map = made([] { return samvolip::object_map<object>::open(); });
+        for (std::uint64_t i = 0; i < 200; i++) {
+            auto next = fresh(i);
+            made([&] { return map.put(i % 50, std::move(next)); });
+            EXPECT(!next);
+        }
+        const auto pin = made([&] { return map.try_pin(); });
+        for (std::uint64_t i = 0; i < 100; i++)
+            EXPECT(made([&] { return map.update(7, [&](const object *there) { return fresh(there->number + 1); }); }));
+        EXPECT(pin.get(7)->number == 257 && made([&] { return map.erase_if([](std::uint64_t key, const object &) { return key > 20; }); }) == 29);
+        for (std::uint64_t i = 0; i < 10; i++)
+            EXPECT(made([&] { return map.erase(i); }) && !made([&] { return map.try_emplace(15, i); }));
+        EXPECT(made([&] { return map.for_each([](std::uint64_t, object &) {}); }) == 11 && map.object_figures()->retired == 289);
+    }
+    EXPECT(alive == 0);
+}
+
 void of_seats()
 {
     samvolip::seat all = made([] { return samvolip::seat::open({{3, 4}, 2, 3, 1, UINT32_MAX, 8}); });
@@ -87,6 +120,7 @@ void of_seats()
 int main()
 {
     of_a_map();
+    of_objects();
     of_seats();
     return 0;
 }

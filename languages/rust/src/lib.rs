@@ -37,6 +37,11 @@
 //! Keys are at most [`KEY_MAX`], and values at most [`VALUE_MAX`]. A key or a value past these is in no map: reads and removals
 //! find nothing there. A write of one is refused. [`key_of`] makes keys of strings, and of all that has a hash.
 //!
+//! # Objects
+//!
+//! An [`ObjectMap`] has values of a type of your own in place of numbers. What is overwritten and removed is dropped when nobody
+//! reads it any more.
+//!
 //! # Panics
 //!
 //! A call that is refused panics, and has changed nothing:
@@ -60,11 +65,13 @@
 mod error;
 mod hash;
 mod map;
+mod objects;
 mod options;
 mod sys;
 
 pub use error::Error;
 pub use hash::key_of;
 pub use map::{Iter, Map};
-pub use options::{Figures, Keys, Options};
+pub use objects::{ObjectMap, Objects, Operation, Pin};
+pub use options::{Figures, Keys, ObjectFigures, Options};
 pub use sys::{KEY_MAX, VALUE_MAX};

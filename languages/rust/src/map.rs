@@ -416,7 +416,7 @@ impl Map {
 
 /// What a read or a removal answers to a key or a value that is out of range: there is none such.
 #[inline]
-fn nowhere<T>(answer: Result<T, Error>, none: T) -> Result<T, Error> {
+pub(crate) fn nowhere<T>(answer: Result<T, Error>, none: T) -> Result<T, Error> {
     match answer {
         Err(Error::KeyRange | Error::ValueRange) => Ok(none),
         answer => answer,

@@ -104,3 +104,24 @@ impl Figures {
         }
     }
 }
+
+/// How many objects were taken out of an [`ObjectMap`](crate::ObjectMap), and wait: [`object_figures`].
+///
+/// [`object_figures`]: crate::ObjectMap::object_figures
+#[derive(Clone, Copy, Debug, PartialEq, Eq)]
+#[non_exhaustive]
+pub struct ObjectFigures {
+    /// How many were overwritten or removed.
+    pub retired: u64,
+    /// How many of these aren't dropped yet.
+    pub waiting: u64,
+    /// For how long, or longer, a pin stands that keeps some of them; none, if none does.
+    pub oldest_pin: Option<Duration>,
+}
+
+impl ObjectFigures {
+    pub(crate) fn of(told: sys::ObjectFigures) -> ObjectFigures {
+        let oldest_pin = (told.oldest_pin > 0).then(|| Duration::from_nanos(told.oldest_pin));
+        ObjectFigures { retired: told.retired, waiting: told.waiting, oldest_pin }
+    }
+}

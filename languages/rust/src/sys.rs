@@ -1,11 +1,13 @@
-//! What this crate has of `samvolip_map.h`, and all of its unsafe code: the functions of C, and safe ones over them.
+//! What this crate has of `samvolip_map.h` and `samvolip_objects.h`, and all of its unsafe code: the functions of C, and safe ones
+//! over them.
 
 #![allow(unsafe_code)]
 
 use crate::Error;
 use std::ffi::c_void;
 use std::marker::PhantomData;
-use std::mem::size_of;
+use std::mem::{forget, size_of};
+use std::process::abort;
 use std::ptr::{self, NonNull};
 use std::sync::Arc;
 
@@ -67,6 +69,15 @@ pub struct Figures {
     pub own_threads: u64,
 }
 
+/// `samvolip_object_figures`.
+#[repr(C)]
+#[derive(Default)]
+pub struct ObjectFigures {
+    pub retired: u64,
+    pub waiting: u64,
+    pub oldest_pin: u64,
+}
+
 /// `samvolip_reply`.
 #[repr(C)]
 #[derive(Default)]
@@ -124,7 +135,21 @@ extern "C" {
     fn samvolip_map_walk_begin(map: *mut CMap, walk: *mut *mut CWalk) -> i32;
     fn samvolip_map_walk_next(walk: *mut CWalk, key: *mut u64, number: *mut u64) -> i32;
     fn samvolip_map_walk_end(walk: *mut CWalk);
+    fn samvolip_map_pin(map: *mut CMap) -> i32;
+    fn samvolip_map_unpin(map: *mut CMap);
+    fn samvolip_map_ready(map: *mut CMap) -> i32;
+    fn samvolip_map_retire(map: *mut CMap, pointer: *mut c_void, free_function: Free) -> i32;
+    fn samvolip_map_collect(map: *mut CMap) -> i32;
+    fn samvolip_map_look_at_objects(map: *mut CMap, figures: *mut ObjectFigures) -> i32;
+    fn samvolip_map_each(
+        map: *mut CMap,
+        visit: Option<extern "C" fn(context: *mut c_void, key: u64, number: u64)>,
+        context: *mut c_void,
+    ) -> i32;
 }
+
+/// A function that frees an object.
+type Free = extern "C" fn(pointer: *mut c_void);
 
 /// Frees a map when its last handle goes.
 struct Owner(NonNull<CMap>);
@@ -372,4 +397,239 @@ fn made(code: i32) -> Result<(), Error> {
         OK => Ok(()),
         refused => Err(Error::of_code(refused)),
     }
+}
+
+/// A map whose numbers are the addresses of boxes.
+pub struct Boxes<V: Send + Sync> {
+    handle: Handle,
+    /// It owns objects,
+    owns: PhantomData<V>,
+    /// and takes them by `&`.
+    takes: PhantomData<fn(V)>,
+}
+
+/// A pin of its thread on such a map. What is got by it stays as long as it stands.
+pub struct Pin<'m, V: Send + Sync> {
+    of: &'m Boxes<V>,
+    /// It stays on its thread.
+    thread: PhantomData<*mut ()>,
+}
+
+impl<V: Send + Sync> Drop for Pin<'_, V> {
+    fn drop(&mut self) {
+        told::unpins();
+        // SAFETY: see `call`; the thread pinned the map when this was made.
+        self.of.handle.call(|map| unsafe { samvolip_map_unpin(map) })
+    }
+}
+
+impl<'m, V: Send + Sync> Pin<'m, V> {
+    /// Whether it is a pin on this map.
+    pub fn is_on(&self, map: &Boxes<V>) -> bool {
+        ptr::eq(self.of, map)
+    }
+
+    /// The object with this address, which the map had at some moment since the pin stands.
+    #[inline]
+    fn object(&self, number: u64) -> &V {
+        told::got(number);
+        // SAFETY: it was put as a box. Whoever takes it out retires it, and then it isn't freed while the pin stands, which is as long as
+        // this borrow. Nobody has it mutably. Who ends and forgets the pin leaves it standing, so it does stand.
+        unsafe { &*(number as *const V) }
+    }
+
+    #[inline]
+    pub fn get(&self, key: u64) -> Result<Option<&V>, Error> {
+        Ok(self.of.handle.get(key)?.map(|number| self.object(number)))
+    }
+
+    /// Puts an object at a key, and returns what was there. A refused call gives it back.
+    pub fn put(&self, key: u64, object: Box<V>) -> Result<Option<&V>, (Error, Box<V>)> {
+        let number = number_of(object);
+        match self.of.exchange(|| self.of.handle.put(key, number)) {
+            Ok(before) => Ok(before.map(|number| self.object(number))),
+            // SAFETY: it was a box just now, and the map hasn't got it.
+            Err(error) => Err((error, unsafe { box_of(number) })),
+        }
+    }
+
+    pub fn remove(&self, key: u64) -> Result<Option<&V>, Error> {
+        let before = self.of.exchange(|| self.of.handle.remove(key))?;
+        Ok(before.map(|number| self.object(number)))
+    }
+
+    /// Puts an object at a key that has the expected one, or none, and returns it. Else it gives the object back, with an error if it
+    /// was refused.
+    pub fn exchange(&self, key: u64, expected: Option<&V>, object: Box<V>) -> Result<&V, (Option<Error>, Box<V>)> {
+        let number = number_of(object);
+        match self.of.exchange_at(key, expected, Some(number)) {
+            Ok(true) => Ok(self.object(number)),
+            // SAFETY: as for `put`.
+            answer => Err((answer.err(), unsafe { box_of(number) })),
+        }
+    }
+
+    /// Removes a key that has the expected object, and returns whether it had.
+    pub fn remove_at(&self, key: u64, expected: &V) -> Result<bool, Error> {
+        self.of.exchange_at(key, Some(expected), None)
+    }
+
+    pub fn walk(&self) -> Result<ObjectWalk<'_, V>, Error> {
+        Ok(ObjectWalk { walk: self.of.handle.walk()?, pin: self })
+    }
+}
+
+impl<V: Send + Sync> Boxes<V> {
+    pub fn open(options: &Options) -> Result<Boxes<V>, Error> {
+        Ok(Boxes { handle: Handle::open(options)?, owns: PhantomData, takes: PhantomData })
+    }
+
+    /// For the calls that see no object.
+    pub fn handle(&self) -> &Handle {
+        &self.handle
+    }
+
+    #[inline]
+    pub fn pin(&self) -> Result<Pin<'_, V>, Error> {
+        // SAFETY: see `call`.
+        made(self.handle.call(|map| unsafe { samvolip_map_pin(map) }))?;
+        Ok(Pin { of: self, thread: PhantomData })
+    }
+
+    /// Makes a call that answers the address that it took out of the map, and retires that. What memory that needs is taken before.
+    fn exchange(&self, call: impl FnOnce() -> Result<Option<u64>, Error>) -> Result<Option<u64>, Error> {
+        // SAFETY: see `call`.
+        made(self.handle.call(|map| unsafe { samvolip_map_ready(map) }))?;
+        let before = call()?;
+        if let Some(number) = before {
+            // SAFETY: see `call`; this call alone took it out of the map, where it was put as a box. It isn't refused now.
+            self.handle.call(|map| unsafe { samvolip_map_retire(map, number as *mut c_void, free_box::<V>) });
+        }
+        Ok(before)
+    }
+
+    /// Whether the key had the expected object, or none, so that it was exchanged.
+    fn exchange_at(&self, key: u64, expected: Option<&V>, next: Option<u64>) -> Result<bool, Error> {
+        let expected = expected.map(|object| object as *const V as u64);
+        let mut matched = false;
+        self.exchange(|| {
+            let answer = self.handle.compare_exchange(key, expected, next)?;
+            matched = answer.is_ok();
+            Ok(answer.unwrap_or(None))
+        })?;
+        Ok(matched)
+    }
+
+    pub fn collect(&self) -> Result<(), Error> {
+        // SAFETY: see `call`.
+        made(self.handle.call(|map| unsafe { samvolip_map_collect(map) }))
+    }
+
+    pub fn look_at_objects(&self) -> Result<ObjectFigures, Error> {
+        let mut figures = ObjectFigures::default();
+        // SAFETY: see `call`; what is written goes to the figures.
+        made(self.handle.call(|map| unsafe { samvolip_map_look_at_objects(map, &mut figures) }))?;
+        Ok(figures)
+    }
+}
+
+impl<V: Send + Sync> Drop for Boxes<V> {
+    fn drop(&mut self) {
+        extern "C" fn free<V>(_: *mut c_void, _: u64, number: u64) {
+            free_box::<V>(number as *mut c_void)
+        }
+        // SAFETY: see `call`; nobody has the map any more, and so nobody what is in it. What was retired goes with the map.
+        self.handle.call(|map| unsafe { samvolip_map_each(map, Some(free::<V>), ptr::null_mut()) });
+    }
+}
+
+/// Drops an object that was put as a box. It doesn't unwind into C: a panic of its `drop` ends the program.
+extern "C" fn free_box<V>(pointer: *mut c_void) {
+    struct Ends;
+    impl Drop for Ends {
+        fn drop(&mut self) {
+            abort()
+        }
+    }
+    let ends = Ends;
+    told::got(pointer as u64);
+    told::frees();
+    // SAFETY: C calls it once, with what was put as a box and was taken out of the map, when nobody has it any more.
+    drop(unsafe { box_of::<V>(pointer as u64) });
+    forget(ends);
+}
+
+/// A walk over the objects, under a pin that stood before.
+pub struct ObjectWalk<'p, V: Send + Sync> {
+    walk: Walk<'p>,
+    pin: &'p Pin<'p, V>,
+}
+
+impl<'p, V: Send + Sync> ObjectWalk<'p, V> {
+    pub fn next(&mut self) -> Result<Option<(u64, &'p V)>, Error> {
+        Ok(self.walk.next()?.map(|(key, number)| (key, self.pin.object(number))))
+    }
+}
+
+/// The address of what is in a box, which nobody frees.
+fn number_of<V>(object: Box<V>) -> u64 {
+    let number = Box::into_raw(object) as u64;
+    told::put(number);
+    number
+}
+
+/// The box with this address.
+///
+/// # Safety
+///
+/// It was a box, and nobody else makes it one again, nor has what is in it.
+unsafe fn box_of<V>(number: u64) -> Box<V> {
+    Box::from_raw(number as *mut V)
+}
+
+/// The thread sanitizer doesn't look into the library: with `--cfg samvolip_tells_order` it is told what that orders. Who gets an object
+/// comes after who put it, and who frees one after all who have unpinned.
+#[cfg(samvolip_tells_order)]
+mod told {
+    use std::ffi::c_void;
+
+    extern "C" {
+        fn __tsan_acquire(address: *mut c_void);
+        fn __tsan_release(address: *mut c_void);
+    }
+
+    static UNPINNED: u64 = 0;
+
+    fn unpinned() -> *mut c_void {
+        std::ptr::addr_of!(UNPINNED).cast_mut().cast()
+    }
+
+    // SAFETY: the sanitizer takes any address.
+    pub fn put(number: u64) {
+        unsafe { __tsan_release(number as *mut c_void) }
+    }
+
+    pub fn got(number: u64) {
+        unsafe { __tsan_acquire(number as *mut c_void) }
+    }
+
+    pub fn unpins() {
+        unsafe { __tsan_release(unpinned()) }
+    }
+
+    pub fn frees() {
+        unsafe { __tsan_acquire(unpinned()) }
+    }
+}
+
+#[cfg(not(samvolip_tells_order))]
+mod told {
+    #[inline]
+    pub fn put(_: u64) {}
+    #[inline]
+    pub fn got(_: u64) {}
+    #[inline]
+    pub fn unpins() {}
+    #[inline]
+    pub fn frees() {}
 }
