@@ -466,6 +466,25 @@ def expiry():
         client.ask(request("EXISTS", *(f"l{i}" for i in range(count))), number(count))
 
 
+def written_meanwhile():
+    """A reader that finds an item expired doesn't remove what another connection has put in its place by then."""
+    with Server("--hash-bits", 5, "--sweep", 3600000) as server, server.connect() as writer:
+        writer.ask(b"".join(request("SET", i, i) for i in range(2000)), OK * 2000)
+        readers = [server.connect() for _ in range(3)]
+        keys = range(20)
+        for _ in range(many(250)):
+            writer.ask(b"".join(request("SET", f"a{i}", "1", "PX", "1") for i in keys), OK * len(keys))
+            time.sleep(0.002)
+            for reader in readers:
+                reader.send(b"".join(request("EXISTS", f"a{i}") for i in keys))
+            writer.ask(b"".join(request("SET", f"a{i}", "2") for i in keys), OK * len(keys))
+            for reader in readers:
+                assert all(reader.line() in (b":0", b":1") for _ in keys)
+            writer.ask(request("EXISTS", *(f"a{i}" for i in keys)), number(len(keys)))
+        for reader in readers:
+            reader.socket.close()
+
+
 def eviction():
     """The bound holds; what is used stays; each key is there or was evicted."""
     most, hot, count = 256 << 10, 50, max(6000, many(20000))
@@ -483,7 +502,7 @@ def eviction():
         told = client.figures()
         keys = int(re.match(r"keys=(\d+),", told["db0"]).group(1))
         assert keys + int(told["evicted_keys"]) == count + hot, f"{told}"
-        assert int(told["used_memory"]) > most * 3 / 4 and keys > 1000, f"{told}"
+        assert int(told["used_memory"]) > most * 0.9 and keys > 1000, f"{told}"
         client.ask(request("DBSIZE"), number(keys))
         client.send(request("EXISTS", *(f"hot{i}" for i in range(hot))))
         stayed = int(client.line()[1:])
@@ -633,7 +652,8 @@ def churn():
         at_once(8, body)
         with server.connect() as client:
             told = client.figures()
-            assert int(told["used_memory"]) <= int(told["maxmemory"]) and int(told["evicted_keys"]) > 0, f"{told}"
+            past = int(told["used_memory"]) - int(told["maxmemory"])
+            assert past <= 4 * 500 and int(told["evicted_keys"]) > 0, f"{told}"
 
 
 # ---- begin and end
@@ -684,7 +704,7 @@ def redis_tools():
     return None
 
 
-TESTS = [replies, pipelines, split_reads, broken_requests, noise, limits, back_pressure, expiry, eviction, overwritten, increments, models,
+TESTS = [replies, pipelines, split_reads, broken_requests, noise, limits, back_pressure, expiry, written_meanwhile, eviction, overwritten, increments, models,
          crowd, churn, stops, redis_tools]
 
 

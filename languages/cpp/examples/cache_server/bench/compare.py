@@ -2,8 +2,9 @@
 """Measures the cache server beside redis-server and memcached: compare.py SERVER LOAD [SECONDS].
 
 SERVER is the path of cache_server, LOAD that of load.cpp, compiled. The servers run by turns, each alone, SECONDS (1 by default) for
-each line of the table, three rounds of it; of these the best counts. It prints how many requests a second each server answered, in
-thousands, that as a multiple of what the faster redis-server did, and how many microseconds of processor it took for a request.
+each line of the table, three rounds of it; of these the best counts. For each server it prints how many requests it answered in a
+second, in thousands, and how many microseconds of processor it took for one; and what cache_server answered as a multiple of what
+others did.
 """
 
 import os
@@ -15,16 +16,17 @@ import tempfile
 import time
 
 KEYS, SIZE, CLIENTS, CONNECTIONS, ROUNDS = 100000, 100, 3, 16, 3
+NAMES = ["cache_server", "redis-server", "redis-server --io-threads", "memcached"]
 WORKS = [(pipeline, sets) for pipeline in (1, 16) for sets in (1, 10)]
 
 
 def servers(server, threads):
     """Returns the servers that are here: their protocol, and their command but for the port."""
-    redis = ["redis-server", "--save", "", "--appendonly", "no", "--bind", "127.0.0.1", "--port"]
+    redis = ["--save", "", "--appendonly", "no", "--bind", "127.0.0.1", "--port"]
     known = {
         "cache_server": ("redis", [server, "--threads", threads, "--port"]),
-        "redis-server": ("redis", redis),
-        "redis-server --io-threads": ("redis", [redis[0], "--io-threads", threads, *redis[1:]]),
+        "redis-server": ("redis", ["redis-server", *redis]),
+        "redis-server --io-threads": ("redis", ["redis-server", "--io-threads", threads, *redis]),
         "memcached": ("memcached", ["memcached", "-u", "root", "-l", "127.0.0.1", "-U", "0", "-m", "256", "-t", threads, "-p"]),
     }
     if threads == "1":
@@ -77,21 +79,28 @@ def measured(load, how, seconds, room):
     return results
 
 
+def row(rounds, work):
+    """Returns what the table tells of a work: each server, and cache_server as a multiple of the others."""
+    best = {name: max(one[name][work][0] for one in rounds) for name in rounds[0]}
+    least = {name: min(one[name][work][1] for one in rounds) for name in rounds[0]}
+    told = [f"{best[name] / 1000:.0f} ({least[name]:.2f})" if name in best else "" for name in NAMES]
+    redis = max((rate for name, rate in best.items() if name.startswith("redis")), default=None)
+    others = [redis, best.get("memcached")]
+    return told + [f"{best[NAMES[0]] / other:.2f}" if other else "" for other in others]
+
+
 def main():
     server, load = (os.path.abspath(path) for path in sys.argv[1:3])
     seconds = float(sys.argv[3]) if len(sys.argv) > 3 else 1
-    print("| Threads | Pipeline | Sets | Server | 1000/s | ratio | µs |\n|--:|--:|--:|---|--:|--:|--:|")
+    titles = ["Threads", "Pipeline", "Sets", *(f"`{name}`" for name in NAMES), "to redis-server", "to memcached"]
+    print("| " + " | ".join(titles) + " |\n" + "|--:" * len(titles) + "|")
     with tempfile.TemporaryDirectory() as room:
         for threads in ("1", "4"):
             all_servers = servers(server, threads)
             rounds = [{name: measured(load, how, seconds, room) for name, how in all_servers.items()} for _ in range(ROUNDS)]
             for work in WORKS:
-                best = {name: max(one[name][work][0] for one in rounds) for name in all_servers}
-                least = {name: min(one[name][work][1] for one in rounds) for name in all_servers}
-                base = max([rate for name, rate in best.items() if name.startswith("redis")], default=best["cache_server"])
-                for name, rate in best.items():
-                    told = f"{name} | {rate / 1000:.0f} | {rate / base:.2f} | {least[name]:.2f}"
-                    print(f"| {threads} | {work[0]} | {work[1] * 10} % | {told} |", flush=True)
+                words = [threads, str(work[0]), f"{work[1] * 10} %", *row(rounds, work)]
+                print("| " + " | ".join(words) + " |", flush=True)
 
 
 if __name__ == "__main__":
