@@ -28,7 +28,8 @@
  * had it in `before`, or whose compare_exchange, replace_if or remove_if found it. Then it is freed
  * when all pins are gone that there were: by a thread that retires or collects, or by
  * samvolip_map_free. A thread may retire while it pins. It remembers up to 61 objects before it
- * shows them to others; collect, and the thread's end, show them.
+ * shows them to others, and pins that begin until then keep them, too; collect, and the thread's end,
+ * show them.
  *
  * A walk that is to show objects begins after the pin, and ends before it. samvolip_map_clear shows
  * `visit` what is out already, for it to retire: where memory may be refused, keys are rather removed
