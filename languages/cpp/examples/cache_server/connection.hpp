@@ -25,9 +25,6 @@ public:
     // it sends meanwhile is thrown away. Else closing would reset the connection, and lose replies.
     std::uint32_t serve(std::uint32_t events, commands &by);
 
-    // Sends what the socket takes.
-    void send();
-
     // Whether it has had its time to end.
     bool is_late(milliseconds now) const noexcept { return now > ends_; }
 
@@ -37,6 +34,7 @@ private:
     void receive();
     void discard();
     void answer(commands &by);
+    void send();
     std::uint32_t end(milliseconds now);
 
     static constexpr std::size_t chunk = 16 << 10;

@@ -69,9 +69,6 @@ void loop::run()
             look_after();
         }
     }
-    for (std::unique_ptr<connection> &one : connections_)
-        if (one)
-            one->send();
 }
 
 // After the events of one epoll_wait, which may be of sockets whose numbers new ones have by now.

@@ -16,8 +16,8 @@ namespace cache {
 
 class loop {
 public:
-    // It begins at once, and ends when it is destroyed: what was answered by then is sent as far as
-    // the sockets take it.
+    // It begins at once, and ends when it is destroyed. What was answered by then is sent, unless a
+    // client didn't take it.
     loop(store &of, figures &mine, const options &how);
     ~loop();
 

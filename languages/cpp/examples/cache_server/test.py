@@ -290,6 +290,17 @@ def pipelines():
             client.expect_end()
 
 
+    big = b"x" * 3500000
+    with Server("--request", "4m") as server:
+        for count in (1, 2, 3, 5, 8):
+            with server.connect() as client:
+                client.send(request("SET", "big", big) + request("GET", "big") * count)
+                client.socket.shutdown(socket.SHUT_WR)
+                time.sleep(0.05)
+                client.expect(OK + text(big) * count)
+                client.expect_end()
+
+
 def split_reads():
     """The same byte for byte, and in two parts that are cut at each place."""
     with Server() as server:
@@ -421,23 +432,22 @@ def limits():
 
 def back_pressure():
     """A client that doesn't read is given no memory without a bound; others are served meanwhile; it gets all its replies."""
-    size, count = 1 << 19, many(200)
-    with Server("--threads", 1) as server, server.connect() as client, server.connect() as other:
-        client.ask(request("SET", "a", b"x" * size), OK)
-        before = server.memory()
-        sender = threading.Thread(target=client.send, args=(request("GET", "a") * count,))
-        sender.start()
-        for i in range(20):
-            other.ask(request("INCR", "n"), number(i + 1))
-            time.sleep(0.01)
-        if SHARE == 1:
-            assert server.memory() - before < 20 << 20, f"{server.memory() - before} bytes for what isn't read"
-        for i in range(count):
-            client.expect(text(b"x" * size))
-            if SHARE == 1 and i % 10 == 0:
-                assert server.memory() - before < 20 << 20, f"{server.memory() - before} bytes, and what was read is kept"
-        sender.join()
-        client.ask(request("PING"), b"+PONG\r\n")
+    for size, count in ((500000, many(200)), (3500000, many(40))):
+        with Server("--threads", 1, "--request", "4m") as server, server.connect() as client, server.connect() as other:
+            client.ask(request("SET", "a", b"x" * size), OK)
+            before = server.memory()
+            sender = threading.Thread(target=client.send, args=(request("GET", "a") * count,))
+            sender.start()
+            for i in range(20):
+                other.ask(request("INCR", "n"), number(i + 1))
+                time.sleep(0.005)
+            grown = server.memory() - before
+            for _ in range(count):
+                client.expect(text(b"x" * size))
+                grown = max(grown, server.memory() - before)
+            assert SHARE < 1 or grown < 30 << 20, f"{grown} bytes for what isn't read"
+            sender.join()
+            client.ask(request("PING"), b"+PONG\r\n")
 
 
 # ---- time and memory
