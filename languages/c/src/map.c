@@ -163,15 +163,22 @@ static uint64_t unmix(const mixing *by, uint64_t key)
     return (__builtin_bswap64(key) * by->inverse[0]) ^ by->with[0];
 }
 
-/* The key that stands in the core for this one. Two numbers are no keys; one that is mixed to such a number is mixed again. */
+/* Two numbers are no keys: one that is mixed to such a number is mixed again. */
+static COLD uint64_t mix_again(const samvolip_map *map, uint64_t key)
+{
+    do
+        key = mix(&map->mixing, key);
+    while (key > SAMVOLIP_KEY_MAX);
+    return key;
+}
+
+/* The key that stands in the core for this one. */
 static inline uint64_t inner_key(const samvolip_map *map, uint64_t key)
 {
     if (!map->mixes || UNLIKELY(key > SAMVOLIP_KEY_MAX))
         return key;
-    do
-        key = mix(&map->mixing, key);
-    while (UNLIKELY(key > SAMVOLIP_KEY_MAX));
-    return key;
+    key = mix(&map->mixing, key);
+    return LIKELY(key <= SAMVOLIP_KEY_MAX) ? key : mix_again(map, key);
 }
 
 static uint64_t outer_key(const samvolip_map *map, uint64_t key)
