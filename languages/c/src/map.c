@@ -27,8 +27,13 @@
 #define COLD __attribute__((cold, noinline))
 
 /* Lane 0 is of who is alone with the map; those up to SHARED of threads that share; the others have an owner each. */
-enum { AGAIN = 2, /* beside a call's codes: it is to be made again */
-       SHARED = 6, COMMON = 1 + SHARED, CELLS = 8, ALL_CELLS = CELLS * 128, PART = 128, WALKED = 64, SLOTS_A_WALK = 4096, LEAST_LEFT = 16, FEW_KEYS = 12000 };
+enum { SHARED = 6, COMMON = 1 + SHARED };
+
+/* A thread has CELLS places for the maps that it calls. A map's place goes by its address: maps lie LINE apart from each other there. */
+enum { CELLS = 8, LINE = 128, ALL_CELLS = CELLS * LINE };
+
+enum { PART = 128, WALKED = 64, SLOTS_A_WALK = 4096, LEAST_LEFT = 16 };
+enum { AGAIN = 2 }; /* beside the codes of a call: it is to be made again */
 
 /* A gate that is open is the number of the core, which no other core of the process has. FENCED is open where the system has no
    membarrier. */
@@ -97,13 +102,13 @@ struct samvolip_map_walk {
     samvolip_entry some[WALKED];
 };
 
-/* A seat of a thread's lane, and of which core it is: it may be used while the map's gate is that number. */
+/* A copy of the seat of a thread's lane, and the number of its core: it may be used while the map's gate is that number. */
 typedef struct way {
     uint64_t core;
     samvolip_seat seat;
 } way;
 
-/* What a thread has. Maps whose addresses differ by a multiple of CELLS * 128 have the same place in the lists. */
+/* What a thread has. */
 static _Thread_local struct thread {
     way ways[CELLS];
     _Atomic(uintptr_t) busy; /* REST, or in the middle of a call; WAITS of no map: in one that is in no core */
@@ -163,22 +168,19 @@ static uint64_t unmix(const mixing *by, uint64_t key)
     return (__builtin_bswap64(key) * by->inverse[0]) ^ by->with[0];
 }
 
-/* Two numbers are no keys: one that is mixed to such a number is mixed again. */
-static COLD uint64_t mix_again(const samvolip_map *map, uint64_t key)
+/* The key that stands in the core for this one, unless it is no key: two numbers are none. */
+static inline uint64_t mixed_once(const samvolip_map *map, uint64_t key)
 {
-    do
-        key = mix(&map->mixing, key);
-    while (key > SAMVOLIP_KEY_MAX);
-    return key;
+    return map->mixes && LIKELY(key <= SAMVOLIP_KEY_MAX) ? mix(&map->mixing, key) : key;
 }
 
-/* The key that stands in the core for this one. */
-static inline uint64_t inner_key(const samvolip_map *map, uint64_t key)
+/* The key that stands in the core for this one. One that is mixed to a number that is no key is mixed again. */
+static uint64_t inner_key(const samvolip_map *map, uint64_t key)
 {
-    if (!map->mixes || UNLIKELY(key > SAMVOLIP_KEY_MAX))
-        return key;
-    key = mix(&map->mixing, key);
-    return LIKELY(key <= SAMVOLIP_KEY_MAX) ? key : mix_again(map, key);
+    uint64_t inner = mixed_once(map, key);
+    while (inner > SAMVOLIP_KEY_MAX && key <= SAMVOLIP_KEY_MAX)
+        inner = mix(&map->mixing, inner);
+    return inner;
 }
 
 static uint64_t outer_key(const samvolip_map *map, uint64_t key)
@@ -345,9 +347,7 @@ static COLD lane *arrive(samvolip_map *map)
 }
 
 /* The map's place in a thread's lists. */
-static inline size_t cell_of(const samvolip_map *map) { return (uintptr_t)map / 128 % CELLS; }
-
-static inline way *way_of(const samvolip_map *map) { return (way *)(void *)((char *)here.ways + cell_of(map) * sizeof(way)); }
+static inline size_t cell_of(const samvolip_map *map) { return (uintptr_t)map / LINE % CELLS; }
 
 /* This thread's own lane, or NULL if it has to share one. */
 static lane *own_lane(samvolip_map *map)
@@ -438,7 +438,7 @@ static COLD samvolip_seat *enter_slowly(samvolip_map *map, unsigned what)
         if (mine)
             atomic_store(&here.busy, busy_word(map, what));
         if (admits(map, what)) {
-            if (mine) /* the gate can't become another core's number now */
+            if (mine) /* the core can't be exchanged now */
                 here.ways[cell_of(map)] = (way){map->core->number, mine->seat};
             return &used->seat;
         }
@@ -452,26 +452,19 @@ static COLD samvolip_seat *enter_slowly(samvolip_map *map, unsigned what)
     }
 }
 
-/* Begins a call by the thread's own lane, if it has one and the gate is open; else the thread is inside, and it is NULL. The busy word
-   comes first: from then on a handler is refused, so that it can't put another map's way there. */
-static inline samvolip_seat *enter_at_once(samvolip_map *map, unsigned what)
+/* Begins a call in the common case: the seat of the thread's own lane, if the gate is open and `inner` is a key. Else it is NULL, and the
+   thread isn't inside. The busy word comes first: from then on a handler is refused, so that it can't put another map's way there. */
+static inline samvolip_seat *enter_at_once(samvolip_map *map, unsigned what, uint64_t inner)
 {
-    way *mine = way_of(map);
+    way *mine = &here.ways[cell_of(map)];
+    if (UNLIKELY(inner > SAMVOLIP_KEY_MAX) || is_inside())
+        return NULL;
     atomic_store_explicit(&here.busy, busy_word(map, what), memory_order_relaxed);
     atomic_signal_fence(memory_order_seq_cst); /* heavy_fence makes it a full one */
-    if (mine->core == atomic_load_explicit(&map->gate, memory_order_acquire))
+    if (LIKELY(mine->core == atomic_load_explicit(&map->gate, memory_order_acquire)))
         return &mine->seat;
-    atomic_store_explicit(&here.busy, WAITS, memory_order_release);
+    go_outside();
     return NULL;
-}
-
-/* Begins a call: the seat by which it is made; NULL in the middle of another call of the thread. */
-static inline samvolip_seat *enter(samvolip_map *map, unsigned what)
-{
-    if (is_inside())
-        return NULL;
-    samvolip_seat *seat = enter_at_once(map, what);
-    return UNLIKELY(!seat) ? enter_slowly(map, what) : seat;
 }
 
 /* During a call: the lane by which it is made. */
@@ -674,7 +667,8 @@ static int renew(samvolip_map *map, enum why why, uint64_t room)
     int code = SAMVOLIP_E_FULL;
     while (code == SAMVOLIP_E_FULL) { /* more keys came than there were when it looked */
         uint64_t keys = samvolip_size_estimate(&map->lanes[0].seat);
-        uint64_t grown = keys * map->options.growth * (why != ASKED && keys < FEW_KEYS ? 2 : 1); /* with few keys renewals come fast */
+        bool is_fast = why != ASKED && keys >= 1000 && keys < 12000; /* so that the renewals of a map that grows come less often there */
+        uint64_t grown = keys * map->options.growth * (is_fast ? 2 : 1);
         uint64_t slots = why == FULL ? keys + 1 : why == TIME ? with_half(keys) : greater(keys + 1, with_half(room ? room : map->options.room));
         /* it is time when there are about 2/3 as many keys as slots: by 5/4, and not 3/2, 4 times as many don't become 8 times by rounding */
         uint64_t wanted = greater(greater(slots, with_half(greater(keys, map->options.room))), room ? 0 : grown + grown / 4);
@@ -723,10 +717,10 @@ static COLD int renew_after(samvolip_map *map, int code)
     return !is_full ? code : refused < 0 ? refused : AGAIN;
 }
 
-/* Ends a write by which a key came or went, or which was refused: its code, or that it is to be made again. */
-static __attribute__((noinline)) int end_write(samvolip_map *map, int code)
+/* Ends a write: its code, or that it is to be made again. `is_change`: a key came or went. */
+static __attribute__((noinline)) int end_write(samvolip_map *map, int code, bool is_change)
 {
-    bool is_time = code >= 0 && used_lane(map)->left-- == 0 && look_for_time(map);
+    bool is_time = is_change && used_lane(map)->left-- == 0 && look_for_time(map);
     if (UNLIKELY(code == SAMVOLIP_E_FULL || is_time))
         return renew_after(map, code);
     leave();
@@ -736,28 +730,42 @@ static __attribute__((noinline)) int end_write(samvolip_map *map, int code)
 /* ---- calls --------------------------------------------------------------------------------- */
 
 /* A write of this name, which is `call` by `seat`; and after a renewal, if the core was full, all of it again. `is_change` says by its
-   code whether a key came or went. `again` stands apart, so that the common case is no loop. */
+   code whether a key came or went. What isn't the common case stands apart, so that this takes few instructions. */
 #define WRITE(name, parameters, words, call, is_change)                                                                              \
-    static COLD int name##_again parameters { return samvolip_map_##name words; }                                                    \
-    int samvolip_map_##name parameters                                                                                               \
+    static COLD int name##_slowly parameters                                                                                         \
     {                                                                                                                                \
         uint64_t inner = inner_key(map, key), found __attribute__((unused));                                                         \
-        samvolip_seat *seat = enter(map, WRITES);                                                                                    \
+        int code = AGAIN;                                                                                                            \
+        while (code == AGAIN) {                                                                                                      \
+            if (!go_inside())                                                                                                        \
+                return SAMVOLIP_E_NESTED;                                                                                            \
+            samvolip_seat *seat = enter_slowly(map, WRITES);                                                                         \
+            code = call;                                                                                                             \
+            code = end_write(map, code, is_change);                                                                                  \
+        }                                                                                                                            \
+        return code;                                                                                                                 \
+    }                                                                                                                                \
+    int samvolip_map_##name parameters                                                                                               \
+    {                                                                                                                                \
+        uint64_t inner = mixed_once(map, key), found __attribute__((unused));                                                        \
+        samvolip_seat *seat = enter_at_once(map, WRITES, inner);                                                                     \
         if (UNLIKELY(!seat))                                                                                                         \
-            return SAMVOLIP_E_NESTED;                                                                                                \
+            return name##_slowly words;                                                                                              \
         int code = call;                                                                                                             \
         if (LIKELY(code >= 0 && !(is_change))) {                                                                                     \
-            leave();                                                                                                                 \
+            go_outside();                                                                                                            \
             return code;                                                                                                             \
         }                                                                                                                            \
-        code = end_write(map, code);                                                                                                 \
-        return UNLIKELY(code == AGAIN) ? name##_again words : code;                                                                  \
+        code = end_write(map, code, is_change);                                                                                      \
+        return UNLIKELY(code == AGAIN) ? name##_slowly words : code;                                                                 \
     }
 #define KEY samvolip_map *map, uint64_t key
 
-/* Inside. It stands apart so that samvolip_map_get needs no stack. */
-static COLD int get_slowly(samvolip_map *map, uint64_t inner, uint64_t *number)
+static COLD int get_slowly(samvolip_map *map, uint64_t key, uint64_t *number)
 {
+    uint64_t inner = inner_key(map, key);
+    if (!go_inside())
+        return SAMVOLIP_E_NESTED;
     int code = samvolip_get(enter_slowly(map, READS), inner, number);
     leave();
     return code;
@@ -765,12 +773,10 @@ static COLD int get_slowly(samvolip_map *map, uint64_t inner, uint64_t *number)
 
 int samvolip_map_get(samvolip_map *map, uint64_t key, uint64_t *number)
 {
-    uint64_t inner = inner_key(map, key);
-    if (is_inside())
-        return SAMVOLIP_E_NESTED;
-    samvolip_seat *seat = enter_at_once(map, READS);
-    if (UNLIKELY(seat == NULL))
-        return get_slowly(map, inner, number);
+    uint64_t inner = mixed_once(map, key);
+    samvolip_seat *seat = enter_at_once(map, READS, inner);
+    if (UNLIKELY(!seat))
+        return get_slowly(map, key, number);
     int code = samvolip_get(seat, inner, number);
     go_outside();
     return code;
@@ -856,9 +862,12 @@ int samvolip_map_size(samvolip_map *map, uint64_t *size)
 
 int samvolip_map_size_estimate(samvolip_map *map, uint64_t *size)
 {
-    samvolip_seat *seat = enter(map, READS);
-    if (!seat)
-        return SAMVOLIP_E_NESTED;
+    samvolip_seat *seat = enter_at_once(map, READS, 0);
+    if (UNLIKELY(!seat)) {
+        if (!go_inside())
+            return SAMVOLIP_E_NESTED;
+        seat = enter_slowly(map, READS);
+    }
     *size = samvolip_size_estimate(seat);
     leave();
     return SAMVOLIP_OK;
@@ -1063,19 +1072,19 @@ static bool read_options(const samvolip_map_options *given, samvolip_map_options
 /* A map without a core. */
 static samvolip_map *new_map(const samvolip_map_options *options)
 {
-    static atomic_uint made; /* maps that are opened one after another differ in the thread's places */
+    static atomic_uint made; /* maps that are opened one after another have different cells */
     char *room = aligned_alloc(ALL_CELLS, 2 * ALL_CELLS);
     unsigned count = COMMON + options->threads;
     lane *lanes = aligned_alloc(128, count * sizeof *lanes);
     struct thread *_Atomic *owners = calloc(count, sizeof *owners);
-    _Static_assert(sizeof(samvolip_map) <= ALL_CELLS + 128, "the map has room at each place");
+    _Static_assert(sizeof(samvolip_map) <= ALL_CELLS + LINE, "the map has room at each place");
     if (!room || !lanes || !owners) {
         free(room);
         free(lanes);
         free((void *)owners);
         return NULL;
     }
-    samvolip_map *map = (samvolip_map *)(void *)(room + made++ % CELLS * 128);
+    samvolip_map *map = (samvolip_map *)(void *)(room + made++ % CELLS * LINE);
     memset(map, 0, sizeof *map);
     memset(lanes, 0, count * sizeof *lanes);
     map->lanes = lanes;

@@ -540,7 +540,7 @@ static void a_map_is_as_large_as_its_keys_ask(void)
     samvolip_map_free(map);
 }
 
-/* While it has few keys it makes more room than the options say, and by hand it doesn't. */
+/* From 1,000 to 12,000 keys it makes more room than the options say, and by hand it doesn't. */
 static void a_map_of_few_keys_grows_faster(void)
 {
     samvolip_map *map = open_map(1000, 1, 0);
