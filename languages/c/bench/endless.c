@@ -1,8 +1,9 @@
 /* What a call of the map without an end costs beside the same call by a seat, and how long its renewals stop others.
      endless calls                 prints lines   calls WHAT NANOSECONDS NANOSECONDS-BY-A-SEAT
-     endless stops KEYS THREADS    prints         stops KEYS THREADS WRITES-MS READS-MS BYTES-A-KEY
+     endless stops KEYS THREADS    prints         stops KEYS THREADS LARGER-MS SMALLER-MS READS-MS BYTES-A-KEY
    The keys of `calls` are 256 numbers, mixed in both. In `stops` so many threads write keys that are there, and the map is made anew
-   ten times meanwhile; the times are the middle ones of the ten. */
+   ten times meanwhile, by turns four times larger and as small as before: how long writes had to wait is the middle one of five each,
+   and the longest wait of reads the middle one of the ten. */
 #include "samvolip_map.h"
 #include <pthread.h>
 #include <stdatomic.h>
@@ -87,7 +88,7 @@ static int by_size(const void *one, const void *other)
 static void stops(unsigned threads)
 {
     samvolip_map_figures before = {0}, after;
-    double writes[TIMES], reads[TIMES];
+    double writes[2][TIMES / 2], reads[TIMES];
     pthread_t *all = calloc(threads, sizeof *all);
     if (!all)
         exit(1);
@@ -101,16 +102,17 @@ static void stops(unsigned threads)
         check(samvolip_map_look(shared, &before));
         check(samvolip_map_renew(shared, i % 2 == 0 ? 4 * keys : keys));
         check(samvolip_map_look(shared, &after));
-        writes[i] = (double)(after.all_stops - before.all_stops) / 1e6;
+        writes[i % 2][i / 2] = (double)(after.all_stops - before.all_stops) / 1e6;
         reads[i] = (double)after.read_stop / 1e6;
     }
     is_over = true;
     for (unsigned t = 0; t < threads; t++)
         pthread_join(all[t], NULL);
-    qsort(writes, TIMES, sizeof *writes, by_size);
+    qsort(writes[0], TIMES / 2, sizeof **writes, by_size);
+    qsort(writes[1], TIMES / 2, sizeof **writes, by_size);
     qsort(reads, TIMES, sizeof *reads, by_size);
-    printf("stops %llu %u %.2f %.3f %.0f\n", (unsigned long long)keys, threads, writes[TIMES / 2], reads[TIMES / 2],
-           16.0 * (double)after.slots / (double)keys);
+    printf("stops %llu %u %.2f %.2f %.3f %.0f\n", (unsigned long long)keys, threads, writes[0][TIMES / 4], writes[1][TIMES / 4],
+           reads[TIMES / 2], 16.0 * (double)after.slots / (double)keys);
     free(all);
 }
 

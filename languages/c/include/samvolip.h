@@ -70,7 +70,7 @@
  * and samvolip_ended_entries take memory; no other call does. It is the program's malloc's, but for
  * blocks of a megabyte and more, as tables and lists of large maps are. Those libsamvolip.so and
  * libsamvolip.a take from the system, in huge pages where it has some, and give back when they are
- * freed. So a handle is used with the copy of the library that opened its map.
+ * freed, but for two of a size, of 16 MiB at most, while another of it is in use. So a handle is used with the copy of the library that opened its map.
  *
  * Versions. samvolip_open tells the library which header the program was compiled with: its version
  * and the sizes of its structs. The library takes each header of its series, from version 0.9.0 on,

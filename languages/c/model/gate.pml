@@ -52,6 +52,12 @@ byte seat[LANES], next[LANES];
 byte owner[LANES];     /* 0 if the lane has none, and else 1 + who it is */
 byte lane_busy[LANES]; /* of a lane for all */
 byte busy[THREADS];
+bool has_way[THREADS]; /* its copy of its lane's seat is of the current core: the gate, once it is open, is that core's number */
+#ifdef WAYS_LAST /* for fewer states: whoever has a lane has a way, also right after an exchange */
+#define has_way_now (mine != 0)
+#else
+#define has_way_now has_way[me]
+#endif
 
 /* A thread's plain stores to its busy word, on their way to memory. */
 chan stores[THREADS] = [STORES] of { byte };
@@ -168,6 +174,9 @@ inline ends_work() {
 inline give_back() {
     drain(me);
     owner[mine] = 0;
+#ifndef WAY_STAYS
+    has_way[me] = false;
+#endif
     mine = 0
 }
 
@@ -243,12 +252,12 @@ asks: /* the common case: a plain store, and a load */
         interrupted(1);
 back1:  if
 #ifndef FENCED
-        :: mine != 0
+        :: mine != 0 || has_way_now
 #endif
         :: else -> goto slowly /* without a lane: nobody reads its busy word */
         fi;
 #ifdef BUSY_AFTER_GATE
-        if :: gate == OPEN :: else -> goto slowly fi;
+        if :: gate == OPEN && has_way_now :: else -> goto slowly fi;
 #endif
         stores[me] ! what
     };
@@ -257,8 +266,11 @@ back1:  if
 back2:  if
 #ifdef BUSY_AFTER_GATE
         :: true -> used = mine; goto enters
+#elif defined(WAY_OF_ANY_CORE)
+        :: gate == OPEN -> used = mine; assert(has_way[me]); goto enters
+        :: else -> stores[me] ! REST
 #else
-        :: gate == OPEN -> used = mine; goto enters
+        :: gate == OPEN && has_way_now -> used = mine; assert(mine != 0); goto enters
         :: else -> stores[me] ! REST
 #endif
         fi
@@ -275,7 +287,14 @@ slowly: /* all else: a locked store, and a load */
     fi;
     atomic {
         interrupted(3);
-back3:  if :: admits(what) -> goto enters :: else fi
+back3:  if
+#ifdef WAYS_LAST
+        :: admits(what) -> goto enters
+#else
+        :: admits(what) -> if :: used == mine -> has_way[me] = true :: else fi; goto enters
+#endif
+        :: else
+        fi
     };
 #ifndef WAITS_BUSY
     atomic { rest_lane(); used = 0 };
@@ -416,7 +435,9 @@ inline exchange_and_open() {
             }
             t = 0;
             turn(CURRENT, GONE);
-            turn(COMING, CURRENT)
+            turn(COMING, CURRENT);
+            for (t : 0 .. THREADS - 1) { has_way[t] = false }
+            t = 0
         };
         locked = false
     fi;

@@ -23,14 +23,23 @@
 #ifndef MOST_EXPONENT /* of a table: less for a test */
 #define MOST_EXPONENT SAMVOLIP_MAX_EXPONENT
 #endif
+#define LIKELY(x) __builtin_expect(!!(x), 1)
 #define UNLIKELY(x) __builtin_expect(!!(x), 0)
 #define COLD __attribute__((cold, noinline))
 
 /* Lane 0 is of who is alone with the map; those up to SHARED of threads that share; the others have an owner each. */
-enum { SHARED = 6, COMMON = 1 + SHARED, CELLS = 8, PART = 128, WALKED = 64, SLOTS_A_WALK = 4096, LEAST_LEFT = 16 };
+enum { SHARED = 6, COMMON = 1 + SHARED };
 
-enum gate { OPEN, FENCED, READS_ONLY, CLOSED }; /* FENCED is open where the system has no membarrier */
-enum busy { REST, READS, WRITES, WAITS, KINDS }; /* a thread's busy word is one of these plus KINDS times the map's id */
+/* A thread has CELLS places for the maps that it calls. A map's place goes by its address: maps lie LINE apart from each other there. */
+enum { CELLS = 8, LINE = 128, ALL_CELLS = CELLS * LINE };
+
+enum { PART = 128, WALKED = 64, SLOTS_A_WALK = 4096, LEAST_LEFT = 16 };
+enum { AGAIN = 2 }; /* beside the codes of a call: it is to be made again */
+
+/* A gate that is open is the number of the core, which no other core of the process has. FENCED is open where the system has no
+   membarrier. */
+enum gate { FENCED = 1, READS_ONLY, CLOSED, FIRST_NUMBER };
+enum busy { REST, READS, WRITES, WAITS }; /* a thread's busy word is one of these plus the map's address */
 
 /* A way into the map. */
 typedef struct lane {
@@ -44,6 +53,7 @@ typedef struct lane {
 typedef struct core {
     samvolip_seat reserve; /* the seat that no lane has, by which walks are made, with the map's lock */
     uint64_t walks;        /* that began here */
+    uint64_t number;       /* of all cores of the process */
     uint32_t exponent;
     bool is_over;          /* another one is in its place: the last walk frees it */
 } core;
@@ -64,9 +74,8 @@ typedef struct mixing {
 
 struct samvolip_map {
     objects objects; /* of objects.c, where it comes first */
-    _Alignas(128) atomic_uint gate; /* this line is what each call reads */
-    uint32_t cell;                  /* some maps have the same */
-    uint64_t id;                    /* no other map of the process has it, not even later; times KINDS */
+    _Alignas(128) atomic_ullong gate; /* this line is what each call reads */
+    uint64_t id;                      /* no other map of the process has it, not even later */
     bool mixes;
     mixing mixing;
     _Alignas(128) pthread_mutex_t lock;
@@ -99,20 +108,27 @@ struct samvolip_map_walk {
     samvolip_entry some[WALKED];
 };
 
+/* A copy of the seat of a thread's lane, and the number of its core: it may be used while the map's gate is that number. */
+typedef struct way {
+    uint64_t core;
+    samvolip_seat seat;
+} way;
+
 /* What a thread has. */
 static _Thread_local struct thread {
-    atomic_ullong busy; /* REST, or in the middle of a call; WAITS of no map: in one that is in no core */
-    bool is_over;       /* it ends: it gets no lane any more */
-    uint64_t ids[CELLS];    /* of which map it has the lane there */
+    way ways[CELLS];
+    _Atomic(uintptr_t) busy; /* REST, or in the middle of a call; WAITS of no map: in one that is in no core */
+    lane *shared;        /* the lane that it shares, during a call */
+    bool is_over;        /* it ends: it gets no lane any more */
+    uint64_t ids[CELLS]; /* of which map is the lane there; it shares one if that is NULL */
     lane *lanes[CELLS];
-    uint64_t shares[CELLS]; /* of which map it has none */
-    lane *shared;           /* the lane that it shares, during a call */
 } here __attribute__((tls_model("initial-exec")));
 
 static pthread_once_t once = PTHREAD_ONCE_INIT;
 static pthread_mutex_t all = PTHREAD_MUTEX_INITIALIZER; /* is locked before a map's lock */
 static samvolip_map *maps;
 static uint64_t opened;
+static atomic_ullong numbers = FIRST_NUMBER; /* of the next core */
 static pthread_key_t at_end;
 static bool has_membarrier;
 
@@ -158,15 +174,19 @@ static uint64_t unmix(const mixing *by, uint64_t key)
     return (__builtin_bswap64(key) * by->inverse[0]) ^ by->with[0];
 }
 
-/* The key that stands in the core for this one. Two numbers are no keys; one that is mixed to such a number is mixed again. */
-static inline uint64_t inner_key(const samvolip_map *map, uint64_t key)
+/* The key that stands in the core for this one, unless it is no key: two numbers are none. */
+static inline uint64_t mixed_once(const samvolip_map *map, uint64_t key)
 {
-    if (!map->mixes || UNLIKELY(key > SAMVOLIP_KEY_MAX))
-        return key;
-    do
-        key = mix(&map->mixing, key);
-    while (UNLIKELY(key > SAMVOLIP_KEY_MAX));
-    return key;
+    return map->mixes && LIKELY(key <= SAMVOLIP_KEY_MAX) ? mix(&map->mixing, key) : key;
+}
+
+/* The key that stands in the core for this one. One that is mixed to a number that is no key is mixed again. */
+static uint64_t inner_key(const samvolip_map *map, uint64_t key)
+{
+    uint64_t inner = mixed_once(map, key);
+    while (inner > SAMVOLIP_KEY_MAX && key <= SAMVOLIP_KEY_MAX)
+        inner = mix(&map->mixing, inner);
+    return inner;
 }
 
 static uint64_t outer_key(const samvolip_map *map, uint64_t key)
@@ -205,8 +225,8 @@ static mixing new_mixing(uint32_t keys, const samvolip_map *map)
 
 static bool admits(const samvolip_map *map, unsigned what)
 {
-    unsigned gate = atomic_load(&map->gate);
-    return gate == OPEN || gate == FENCED || (gate == READS_ONLY && what == READS);
+    uint64_t gate = atomic_load(&map->gate);
+    return gate >= FIRST_NUMBER || gate == FENCED || (gate == READS_ONLY && what == READS);
 }
 
 static void lock(samvolip_map *map) { pthread_mutex_lock(&map->lock); }
@@ -214,12 +234,14 @@ static void unlock(samvolip_map *map) { pthread_mutex_unlock(&map->lock); }
 static void wait(samvolip_map *map) { pthread_cond_wait(&map->turned, &map->lock); }
 static void tell(samvolip_map *map) { pthread_cond_broadcast(&map->turned); }
 
+static uint64_t busy_word(const samvolip_map *map, unsigned what) { return (uintptr_t)map + what; }
+
 /* Whether a call of this kind is under way by a lane. With the lock, so that the lane's thread doesn't end. */
 static bool is_busy(samvolip_map *map, unsigned i, unsigned what)
 {
     struct thread *owner = map->owners[i];
     if (owner)
-        return atomic_load(&owner->busy) == map->id + what;
+        return atomic_load(&owner->busy) == busy_word(map, what);
     return atomic_load(&map->lanes[i].busy) == what;
 }
 
@@ -239,7 +261,7 @@ static void close_gate(samvolip_map *map, enum gate to)
 /* With the lock. */
 static void open_gate(samvolip_map *map)
 {
-    atomic_store(&map->gate, has_membarrier ? OPEN : FENCED);
+    atomic_store(&map->gate, has_membarrier ? map->core->number : FENCED);
     tell(map);
 }
 
@@ -330,20 +352,22 @@ static COLD lane *arrive(samvolip_map *map)
     return mine;
 }
 
+/* The map's place in a thread's lists. */
+static inline size_t cell_of(const samvolip_map *map) { return (uintptr_t)map / LINE % CELLS; }
+
 /* This thread's own lane, or NULL if it has to share one. */
 static lane *own_lane(samvolip_map *map)
 {
-    uint32_t cell = map->cell;
-    if (here.ids[cell] == map->id)
+    size_t cell = cell_of(map);
+    bool is_known = here.ids[cell] == map->id;
+    if (is_known && here.lanes[cell])
         return here.lanes[cell];
-    lane *mine = here.shares[cell] == map->id ? NULL : find_lane(map);
+    lane *mine = is_known ? NULL : find_lane(map);
     if (!mine && map->taken < map->count - COMMON)
         mine = arrive(map);
-    if (mine) {
-        here.ids[cell] = map->id;
-        here.lanes[cell] = mine;
-    }
-    here.shares[cell] = mine ? 0 : map->id;
+    here.ids[cell] = map->id;
+    here.lanes[cell] = mine;
+    here.ways[cell].core = 0;
     return mine;
 }
 
@@ -355,8 +379,8 @@ static void give_back(samvolip_map *map)
         map->owners[mine - map->lanes] = NULL;
         map->taken--;
     }
-    if (here.ids[map->cell] == map->id)
-        here.ids[map->cell] = 0;
+    if (here.ids[cell_of(map)] == map->id)
+        here.ids[cell_of(map)] = here.ways[cell_of(map)].core = 0;
 }
 
 static void thread_ends(void *unused)
@@ -433,14 +457,17 @@ static void wait_for_gate(samvolip_map *map, unsigned what, lane *mine)
 }
 
 /* Inside: what enter does, but for the common case. */
-static COLD lane *enter_slowly(samvolip_map *map, unsigned what)
+static COLD samvolip_seat *enter_slowly(samvolip_map *map, unsigned what)
 {
     for (;;) {
         lane *mine = own_lane(map), *used = mine ? mine : take_shared(map, what);
         if (mine)
-            atomic_store(&here.busy, map->id + what);
-        if (admits(map, what))
-            return used;
+            atomic_store(&here.busy, busy_word(map, what));
+        if (admits(map, what)) {
+            if (mine) /* the core can't be exchanged now */
+                here.ways[cell_of(map)] = (way){map->core->number, mine->seat};
+            return &used->seat;
+        }
         rest_lane();
         for (unsigned turn = 0; turn < 64 && atomic_load(&map->gate) == CLOSED; turn++)
             rest(turn);
@@ -449,28 +476,23 @@ static COLD lane *enter_slowly(samvolip_map *map, unsigned what)
     }
 }
 
-/* Begins a call by the thread's own lane, if it has one and the gate is open; else the thread is inside, and it is NULL. The busy word
-   comes first: from then on a handler is refused, so that it can't put another map's lane into the cell. */
-static inline lane *enter_at_once(samvolip_map *map, unsigned what)
+/* Begins a call in the common case: the seat of the thread's own lane, if the gate is open and `inner` is a key. Else it is NULL, and the
+   thread isn't inside. The busy word comes first: from then on a handler is refused, so that it can't put another map's way there. */
+static inline samvolip_seat *enter_at_once(samvolip_map *map, unsigned what, uint64_t inner)
 {
-    atomic_store_explicit(&here.busy, map->id + what, memory_order_relaxed);
+    way *mine = &here.ways[cell_of(map)];
+    if (UNLIKELY(inner > SAMVOLIP_KEY_MAX) || is_inside())
+        return NULL;
+    atomic_store_explicit(&here.busy, busy_word(map, what), memory_order_relaxed);
     atomic_signal_fence(memory_order_seq_cst); /* heavy_fence makes it a full one */
-    lane *mine = here.lanes[map->cell];
-    bool is_mine = here.ids[map->cell] == map->id, is_open = atomic_load_explicit(&map->gate, memory_order_acquire) == OPEN;
-    if (is_mine && is_open)
-        return mine;
-    atomic_store_explicit(&here.busy, WAITS, memory_order_release);
+    if (LIKELY(mine->core == atomic_load_explicit(&map->gate, memory_order_acquire)))
+        return &mine->seat;
+    go_outside();
     return NULL;
 }
 
-/* Begins a call: the lane by whose seat it is made; NULL in the middle of another call of the thread. */
-static inline lane *enter(samvolip_map *map, unsigned what)
-{
-    if (is_inside())
-        return NULL;
-    lane *mine = enter_at_once(map, what);
-    return UNLIKELY(!mine) ? enter_slowly(map, what) : mine;
-}
+/* During a call: the lane by which it is made. */
+static inline lane *used_lane(const samvolip_map *map) { return UNLIKELY(here.shared != NULL) ? here.shared : here.lanes[cell_of(map)]; }
 
 static inline void leave(void)
 {
@@ -540,6 +562,7 @@ static int new_core(const samvolip_map *map, uint32_t exponent, core **made)
         return SAMVOLIP_E_OUT_OF_MEMORY;
     fresh->exponent = exponent;
     int code = samvolip_open(&shape, &fresh->reserve);
+    fresh->number = atomic_fetch_add(&numbers, 1);
     if (code < 0)
         free(fresh);
     else
@@ -667,7 +690,9 @@ static int renew(samvolip_map *map, enum why why, uint64_t room)
 {
     int code = SAMVOLIP_E_FULL;
     while (code == SAMVOLIP_E_FULL) { /* more keys came than there were when it looked */
-        uint64_t keys = samvolip_size_estimate(&map->lanes[0].seat), grown = keys * map->options.growth;
+        uint64_t keys = samvolip_size_estimate(&map->lanes[0].seat);
+        bool is_fast = why != ASKED && keys >= 1000 && keys < 12000; /* so that the renewals of a map that grows come less often there */
+        uint64_t grown = keys * map->options.growth * (is_fast ? 2 : 1);
         uint64_t slots = why == FULL ? keys + 1 : why == TIME ? with_half(keys) : greater(keys + 1, with_half(room ? room : map->options.room));
         /* it is time when there are about 2/3 as many keys as slots: by 5/4, and not 3/2, 4 times as many don't become 8 times by rounding */
         uint64_t wanted = greater(greater(slots, with_half(greater(keys, map->options.room))), room ? 0 : grown + grown / 4);
@@ -686,23 +711,25 @@ static int renew(samvolip_map *map, enum why why, uint64_t room)
 
 /* Whether it is time for a renewal: more than two thirds of the slots are taken, or the table is much too large for its keys. It also
    says when the lane looks again. */
-static COLD bool is_time(samvolip_map *map, lane *used)
+static COLD bool look_for_time(samvolip_map *map)
 {
+    lane *used = used_lane(map);
     samvolip_slots found;
     samvolip_occupancy(&used->seat, &found);
     uint64_t slots = slots_of(map->core->exponent), keys = samvolip_size_estimate(&used->seat);
     bool is_crowded = UINT64_C(3) * found.taken > UINT64_C(2) * found.looked;
     bool is_sparse = slots > slots_of(exponent_for(map->options.room)) && keys * 8 * map->options.growth < slots;
-    uint64_t room = is_crowded ? slots / 16 : slots * 2 / 3 - slots * found.taken / found.looked, left = room / (2 * (map->taken + SHARED));
-    used->left = (uint32_t)(left < slots / 32 ? left : slots / 32) + LEAST_LEFT;
+    unsigned writers = map->taken < map->count - COMMON ? map->taken : map->taken + SHARED; /* none shares while lanes are free */
+    uint64_t room = is_crowded ? slots / 16 : slots * 2 / 3 - slots * found.taken / found.looked, left = room / (2 * writers + 1);
+    used->left = (uint32_t)greater(left < slots / 16 ? left : slots / 16, slots / 512) + LEAST_LEFT;
     return is_crowded || is_sparse;
 }
 
-/* After a write that was full, or came when it was time: renews the map, unless somebody does. It says whether the write was made,
-   or is refused; else it is to be made again. */
-static COLD bool renew_after(samvolip_map *map, int *code)
+/* After a write that was full, or came when it was time: renews the map, unless somebody does. A write that was full is to be made
+   again then; it is refused if there is no memory. */
+static COLD int renew_after(samvolip_map *map, int code)
 {
-    bool is_full = *code == SAMVOLIP_E_FULL;
+    bool is_full = code == SAMVOLIP_E_FULL;
     uint64_t cores = map->cores; /* the core can't be exchanged before the lane rests */
     int refused = SAMVOLIP_OK;
     rest_lane();
@@ -715,55 +742,70 @@ static COLD bool renew_after(samvolip_map *map, int *code)
         take_back(map, held);
     }
     go_outside();
-    if (is_full && refused < 0)
-        *code = refused;
-    return !is_full || refused < 0;
+    return !is_full ? code : refused < 0 ? refused : AGAIN;
 }
 
-/* Ends a write, and says whether it was made or refused; else it is to be made again. `is_change`: a key came or went. */
-static inline bool is_done(samvolip_map *map, lane *used, int *code, bool is_change)
+/* Ends a write: its code, or that it is to be made again. `is_change`: a key came or went. */
+static __attribute__((noinline)) int end_write(samvolip_map *map, int code, bool is_change)
 {
-    bool time = is_change && UNLIKELY(used->left-- == 0) && is_time(map, used);
-    if (UNLIKELY(*code == SAMVOLIP_E_FULL) || UNLIKELY(time))
+    bool is_time = is_change && used_lane(map)->left-- == 0 && look_for_time(map);
+    if (UNLIKELY(code == SAMVOLIP_E_FULL || is_time))
         return renew_after(map, code);
     leave();
-    return true;
+    return UNLIKELY(code == SAMVOLIP_E_CONTENDED) && samvolip_rest() ? AGAIN : code;
 }
 
 /* ---- calls --------------------------------------------------------------------------------- */
 
-/* Makes a write, `call`, by `seat`; and again after a renewal, if the core was full. `is_change` says by its code whether a key came
-   or went. */
-#define WRITE(call, is_change)                                                                                                       \
-    uint64_t inner = inner_key(map, key);                                                                                            \
-    for (;;) {                                                                                                                       \
-        lane *used = enter(map, WRITES);                                                                                             \
-        if (!used)                                                                                                                   \
-            return SAMVOLIP_E_NESTED;                                                                                                \
-        samvolip_seat *seat = &used->seat;                                                                                           \
+/* A write of this name, which is `call` by `seat`; and after a renewal, if the core was full, all of it again. `is_change` says by its
+   code whether a key came or went. What isn't the common case stands apart, so that this takes few instructions. */
+#define WRITE(name, parameters, words, call, is_change)                                                                              \
+    static COLD int name##_slowly parameters                                                                                         \
+    {                                                                                                                                \
+        uint64_t inner = inner_key(map, key), found __attribute__((unused));                                                         \
+        int code = AGAIN;                                                                                                            \
+        while (code == AGAIN) {                                                                                                      \
+            if (!go_inside())                                                                                                        \
+                return SAMVOLIP_E_NESTED;                                                                                            \
+            samvolip_seat *seat = enter_slowly(map, WRITES);                                                                         \
+            code = call;                                                                                                             \
+            code = end_write(map, code, is_change);                                                                                  \
+        }                                                                                                                            \
+        return code;                                                                                                                 \
+    }                                                                                                                                \
+    int samvolip_map_##name parameters                                                                                               \
+    {                                                                                                                                \
+        uint64_t inner = mixed_once(map, key), found __attribute__((unused));                                                        \
+        samvolip_seat *seat = enter_at_once(map, WRITES, inner);                                                                     \
+        if (UNLIKELY(!seat))                                                                                                         \
+            return name##_slowly words;                                                                                              \
         int code = call;                                                                                                             \
-        if (is_done(map, used, &code, is_change))                                                                                    \
+        if (LIKELY(code >= 0 && !(is_change))) {                                                                                     \
+            go_outside();                                                                                                            \
             return code;                                                                                                             \
+        }                                                                                                                            \
+        code = end_write(map, code, is_change);                                                                                      \
+        return UNLIKELY(code == AGAIN) ? name##_slowly words : code;                                                                 \
     }
+#define KEY samvolip_map *map, uint64_t key
 
-/* Inside. It stands apart so that samvolip_map_get needs no stack. */
-static COLD int get_slowly(samvolip_map *map, uint64_t inner, uint64_t *number)
+static COLD int get_slowly(samvolip_map *map, uint64_t key, uint64_t *number)
 {
-    lane *used = enter_slowly(map, READS);
-    int code = samvolip_get(&used->seat, inner, number);
+    uint64_t inner = inner_key(map, key);
+    if (!go_inside())
+        return SAMVOLIP_E_NESTED;
+    int code = samvolip_get(enter_slowly(map, READS), inner, number);
     leave();
     return code;
 }
 
 int samvolip_map_get(samvolip_map *map, uint64_t key, uint64_t *number)
 {
-    uint64_t inner = inner_key(map, key);
-    if (is_inside())
-        return SAMVOLIP_E_NESTED;
-    lane *mine = enter_at_once(map, READS);
-    if (UNLIKELY(mine == NULL))
-        return get_slowly(map, inner, number);
-    int code = samvolip_get(&mine->seat, inner, number);
+    uint64_t inner = mixed_once(map, key);
+    samvolip_seat *seat = enter_at_once(map, READS, inner);
+    if (UNLIKELY(!seat))
+        return get_slowly(map, key, number);
+    int code = samvolip_get(seat, inner, number);
     go_outside();
     return code;
 }
@@ -774,55 +816,25 @@ int samvolip_map_contains(samvolip_map *map, uint64_t key)
     return samvolip_map_get(map, key, &number);
 }
 
-int samvolip_map_put(samvolip_map *map, uint64_t key, uint64_t number, uint64_t *before)
-{
-    WRITE(samvolip_put(seat, inner, number, before), code == SAMVOLIP_ABSENT)
-}
+WRITE(put, (KEY, uint64_t number, uint64_t *before), (map, key, number, before), samvolip_try_put(seat, inner, number, 1, before ? before : &found), code == SAMVOLIP_ABSENT)
 
-int samvolip_map_put_if_absent(samvolip_map *map, uint64_t key, uint64_t number, uint64_t *before)
-{
-    WRITE(samvolip_put_if_absent(seat, inner, number, before), code == SAMVOLIP_ABSENT)
-}
+WRITE(put_if_absent, (KEY, uint64_t number, uint64_t *before), (map, key, number, before), samvolip_try_put_if_absent(seat, inner, number, 1, before ? before : &found), code == SAMVOLIP_ABSENT)
 
-int samvolip_map_get_or_insert(samvolip_map *map, uint64_t key, uint64_t number, uint64_t *there)
-{
-    WRITE(samvolip_get_or_insert(seat, inner, number, there), code == SAMVOLIP_ABSENT)
-}
+WRITE(get_or_insert, (KEY, uint64_t number, uint64_t *there), (map, key, number, there), samvolip_get_or_insert(seat, inner, number, there), code == SAMVOLIP_ABSENT)
 
-int samvolip_map_fetch_max(samvolip_map *map, uint64_t key, uint64_t number, uint64_t *before)
-{
-    WRITE(samvolip_fetch_max(seat, inner, number, before), code == SAMVOLIP_ABSENT)
-}
+WRITE(fetch_max, (KEY, uint64_t number, uint64_t *before), (map, key, number, before), samvolip_fetch_max(seat, inner, number, before), code == SAMVOLIP_ABSENT)
 
-int samvolip_map_fetch_min(samvolip_map *map, uint64_t key, uint64_t number, uint64_t *before)
-{
-    WRITE(samvolip_fetch_min(seat, inner, number, before), code == SAMVOLIP_ABSENT)
-}
+WRITE(fetch_min, (KEY, uint64_t number, uint64_t *before), (map, key, number, before), samvolip_fetch_min(seat, inner, number, before), code == SAMVOLIP_ABSENT)
 
-int samvolip_map_add(samvolip_map *map, uint64_t key, uint64_t number, uint64_t *before)
-{
-    WRITE(samvolip_add(seat, inner, number, before), code == SAMVOLIP_ABSENT)
-}
+WRITE(add, (KEY, uint64_t number, uint64_t *before), (map, key, number, before), samvolip_try_add(seat, inner, number, 1, before ? before : &found), code == SAMVOLIP_ABSENT)
 
-int samvolip_map_replace(samvolip_map *map, uint64_t key, uint64_t number, uint64_t *before)
-{
-    WRITE(samvolip_replace(seat, inner, number, before), false)
-}
+WRITE(replace, (KEY, uint64_t number, uint64_t *before), (map, key, number, before), samvolip_replace(seat, inner, number, before), false)
 
-int samvolip_map_replace_if(samvolip_map *map, uint64_t key, uint64_t old, uint64_t number)
-{
-    WRITE(samvolip_replace_if(seat, inner, old, number), false)
-}
+WRITE(replace_if, (KEY, uint64_t old, uint64_t number), (map, key, old, number), samvolip_replace_if(seat, inner, old, number), false)
 
-int samvolip_map_remove(samvolip_map *map, uint64_t key, uint64_t *before)
-{
-    WRITE(samvolip_remove(seat, inner, before), code == SAMVOLIP_PRESENT)
-}
+WRITE(remove, (KEY, uint64_t *before), (map, key, before), samvolip_try_remove(seat, inner, 1, before ? before : &found), code == SAMVOLIP_PRESENT)
 
-int samvolip_map_remove_if(samvolip_map *map, uint64_t key, uint64_t number)
-{
-    WRITE(samvolip_remove_if(seat, inner, number), code == SAMVOLIP_PRESENT)
-}
+WRITE(remove_if, (KEY, uint64_t number), (map, key, number), samvolip_remove_if(seat, inner, number), code == SAMVOLIP_PRESENT)
 
 static int exchange_at(samvolip_seat *seat, uint64_t key, const uint64_t *expected, const uint64_t *next, samvolip_reply *reply)
 {
@@ -833,10 +845,7 @@ static int exchange_at(samvolip_seat *seat, uint64_t key, const uint64_t *expect
     return code;
 }
 
-int samvolip_map_compare_exchange(samvolip_map *map, uint64_t key, const uint64_t *expected, const uint64_t *next, samvolip_reply *reply)
-{
-    WRITE(exchange_at(seat, inner, expected, next, reply), code >= 0 && reply->matched && !(expected && next))
-}
+WRITE(compare_exchange, (KEY, const uint64_t *expected, const uint64_t *next, samvolip_reply *reply), (map, key, expected, next, reply), exchange_at(seat, inner, expected, next, reply), code >= 0 && reply->matched && !(expected && next))
 
 int samvolip_map_update(samvolip_map *map, uint64_t key, samvolip_updater *updater, void *context, uint64_t *before)
 {
@@ -881,10 +890,13 @@ int samvolip_map_size(samvolip_map *map, uint64_t *size)
 
 int samvolip_map_size_estimate(samvolip_map *map, uint64_t *size)
 {
-    lane *used = enter(map, READS);
-    if (!used)
-        return SAMVOLIP_E_NESTED;
-    *size = samvolip_size_estimate(&used->seat);
+    samvolip_seat *seat = enter_at_once(map, READS, 0);
+    if (UNLIKELY(!seat)) {
+        if (!go_inside())
+            return SAMVOLIP_E_NESTED;
+        seat = enter_slowly(map, READS);
+    }
+    *size = samvolip_size_estimate(seat);
     leave();
     return SAMVOLIP_OK;
 }
@@ -1106,16 +1118,19 @@ static bool read_options(const samvolip_map_options *given, samvolip_map_options
 /* A map without a core. */
 static samvolip_map *new_map(const samvolip_map_options *options)
 {
-    samvolip_map *map = aligned_alloc(128, sizeof *map);
+    static atomic_uint made; /* maps that are opened one after another have different cells */
+    char *room = aligned_alloc(ALL_CELLS, 2 * ALL_CELLS);
     unsigned count = COMMON + options->threads;
     lane *lanes = aligned_alloc(128, count * sizeof *lanes);
     struct thread *_Atomic *owners = calloc(count, sizeof *owners);
-    if (!map || !lanes || !owners) {
-        free(map);
+    _Static_assert(sizeof(samvolip_map) <= ALL_CELLS + LINE, "the map has room at each place");
+    if (!room || !lanes || !owners) {
+        free(room);
         free(lanes);
         free((void *)owners);
         return NULL;
     }
+    samvolip_map *map = (samvolip_map *)(void *)(room + made++ % CELLS * LINE);
     memset(map, 0, sizeof *map);
     memset(lanes, 0, count * sizeof *lanes);
     map->lanes = lanes;
@@ -1139,15 +1154,14 @@ static void free_map(samvolip_map *map)
     pthread_mutex_destroy(&map->lock);
     free(map->lanes);
     free((void *)map->owners);
-    free(map);
+    free((void *)((uintptr_t)map / ALL_CELLS * ALL_CELLS));
 }
 
 /* From now on threads that end give their lanes back, and forks stop it. */
 static void enlist(samvolip_map *map)
 {
     pthread_mutex_lock(&all);
-    map->cell = (uint32_t)(++opened % CELLS);
-    map->id = opened * KINDS;
+    map->id = ++opened;
     map->after = maps;
     if (maps)
         maps->before = map;
@@ -1176,7 +1190,7 @@ int samvolip_map_open_with(uint32_t version, size_t options_size, size_t figures
         free_map(map);
         return code;
     }
-    atomic_store(&map->gate, has_membarrier ? OPEN : FENCED);
+    open_gate(map);
     enlist(map);
     objects_begin(&map->objects);
     *made = map;

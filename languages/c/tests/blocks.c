@@ -133,6 +133,38 @@ static void many_blocks(void)
     }
 }
 
+/* Of a size that is in use two freed blocks are kept, and taken again in their order. With the last one of its size in use they go. */
+static void kept_blocks(size_t size)
+{
+    unsigned char *blocks[4];
+    for (int i = 0; i < 4; i++)
+        memset(blocks[i] = taken(size), i + 1, size);
+    double before = expect_mebibytes().all, mebibytes = (double)size / (double)MIB;
+    for (int i = 0; i < 3; i++)
+        free(blocks[i]);
+    EXPECT(IS_SANITIZED || expect_mebibytes().all < before - mebibytes + 1);
+    EXPECT(IS_SANITIZED || expect_mebibytes().all > before - 1.5 * mebibytes);
+    EXPECT(taken(size) == blocks[0] && is_all(blocks[0], 1, size));
+    EXPECT(taken(size) == blocks[1] && is_all(blocks[1], 2, size));
+    memset(blocks[1], 0, size);
+    EXPECT(is_all(blocks[1], 0, size));
+    free(blocks[1]);
+    free(blocks[3]);
+    free(blocks[0]);
+    EXPECT(IS_SANITIZED || expect_mebibytes().all < before - 4 * mebibytes + 1);
+}
+
+/* Larger ones aren't kept. */
+static void blocks_that_are_too_large_to_keep(void)
+{
+    unsigned char *one = taken(16 * MIB + 4096), *other = taken(16 * MIB + 4096);
+    memset(one, 1, 16 * MIB);
+    free(one);
+    EXPECT(is_all(one = taken(16 * MIB + 4096), 0, 16 * MIB + 4096));
+    free(one);
+    free(other);
+}
+
 /* Blocks of another allocator that begin where large blocks do. */
 static void blocks_of_others(void)
 {
@@ -153,7 +185,7 @@ struct taker {
     int turns;
 };
 
-/* Takes, clears and frees blocks by turns with others. A block is marked at both ends, and is zero when it is new. */
+/* Takes, clears and frees blocks by turns with others. A block is marked at both ends. */
 static void *takes_blocks(void *given)
 {
     struct taker *taker = given;
@@ -172,9 +204,8 @@ static void *takes_blocks(void *given)
             EXPECT(block[0] == 0 && block[sizes[at] - 1] == taker->mark);
             free(block);
         }
-        sizes[at] = MIB + state / 4 % MIB;
+        sizes[at] = MIB + state / 4 % (state % 16 < 8 ? 8 : MIB); /* often of one size, so that freed blocks are kept and taken */
         blocks[at] = block = taken(sizes[at]);
-        EXPECT(block[0] == 0 && block[sizes[at] - 1] == 0);
         block[0] = block[sizes[at] - 1] = taker->mark;
     }
     for (int i = 0; i < 4; i++)
@@ -204,6 +235,9 @@ int main(int count, char **words)
     cleared_blocks();
     moved_blocks();
     many_blocks();
+    kept_blocks(2 * MIB);
+    kept_blocks(16 * MIB);
+    blocks_that_are_too_large_to_keep();
     blocks_of_others();
     in_threads(turns);
     EXPECT(expect_mebibytes().all < before + 1);

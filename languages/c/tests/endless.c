@@ -540,6 +540,25 @@ static void a_map_is_as_large_as_its_keys_ask(void)
     samvolip_map_free(map);
 }
 
+/* From 1,000 to 12,000 keys it makes more room than the options say, and by hand it doesn't. */
+static void a_map_of_few_keys_grows_faster(void)
+{
+    samvolip_map *map = open_map(1000, 1, 0);
+    samvolip_map *more = NULL;
+    const samvolip_map_options options = SAMVOLIP_MAP_OPTIONS_INIT;
+    EXPECT(samvolip_map_open(&options, &more) == SAMVOLIP_OK);
+    for (uint64_t key = 0; key < 1500; key++)
+        EXPECT(samvolip_map_put(map, key, 0, NULL) == SAMVOLIP_ABSENT && samvolip_map_put(more, key, 0, NULL) == SAMVOLIP_ABSENT);
+    EXPECT(figures_of(map).slots == 8192 && figures_of(more).slots == 16384);
+    EXPECT(samvolip_map_renew(map, 0) == SAMVOLIP_OK && samvolip_map_renew(more, 0) == SAMVOLIP_OK);
+    EXPECT(figures_of(map).slots == 4096 && figures_of(more).slots == 8192);
+    for (uint64_t key = 1500; key < 40000; key++)
+        EXPECT(samvolip_map_put(more, key, 0, NULL) == SAMVOLIP_ABSENT);
+    EXPECT(figures_of(more).slots == 65536);
+    samvolip_map_free(map);
+    samvolip_map_free(more);
+}
+
 /* ---- sums ---------------------------------------------------------------------------------- */
 
 static uint64_t own_key(const struct worker *worker, uint64_t turn) { return OWN + turn * MOST_WORKERS + worker->number; }
@@ -1552,6 +1571,7 @@ static const struct {
     TEST(a_renewal_by_hand_is_made),
     TEST(a_renewal_for_too_many_keys_is_refused),
     TEST(a_map_is_as_large_as_its_keys_ask),
+    TEST(a_map_of_few_keys_grows_faster),
     TEST(what_four_threads_add_is_there_or_was_removed),
     TEST(many_threads_share_few_seats),
     TEST(seats_go_from_thread_to_thread),
