@@ -651,6 +651,30 @@ class Threads(unittest.TestCase):
         run_all(6, lambda number: [m.put(number + 6 * i, i) for i in range(30_000)])
         self.assertEqual((len(m), sum(m.values())), (180_000, 6 * sum(range(30_000))))
 
+    def test_exit(self):
+        """The interpreter ends while threads renew a map, wait for that, and are in batches."""
+        program = """if True:
+            import threading, time
+            from samvolip import Map
+            m = Map(growth=2)
+            def put(key):
+                while True:
+                    m[key] = key
+                    key += 8
+                    if key % 4096 < 8:
+                        m.clear()
+            def add():
+                while True:
+                    m.add_many(range(20_000))
+            works = [threading.Thread(target=put, args=(key,), daemon=True) for key in range(4)]
+            for work in [*works, threading.Thread(target=add, daemon=True)]:
+                work.start()
+            time.sleep(0.1)"""
+        paths = {**os.environ, "PYTHONPATH": os.path.dirname(os.path.dirname(samvolip.__file__))}
+        for _ in range(3):
+            ran = subprocess.run([sys.executable, "-c", program], capture_output=True, text=True, env=paths, cwd="/", timeout=60)
+            self.assertEqual((ran.returncode, ran.stdout, ran.stderr), (0, "", ""))
+
     def test_contended(self):
         m = Map()
         interval = sys.getswitchinterval()
