@@ -443,6 +443,20 @@ static void handlers(void)
     end(handled);
 }
 
+/* In a child its own pin stands alone. */
+static void go_on_in_child(samvolip_map *map, const object *mine)
+{
+    samvolip_map_collect(map);
+    EXPECT(mine->check == ~UINT64_C(2)); /* the pin is older than both */
+    has(map, 2, 2);
+    samvolip_map_unpin(map);
+    samvolip_map_collect(map);
+    has(map, 2, 0);
+    put(map, 3);
+    end(map);
+    _exit(0);
+}
+
 /* A child has the pins of its thread alone, and frees what was retired. */
 static void forks(void)
 {
@@ -463,17 +477,8 @@ static void forks(void)
     has(map, 2, 2);
     pid_t child = fork();
     EXPECT(child >= 0);
-    if (child == 0) {
-        samvolip_map_collect(map);
-        EXPECT(mine->check == ~UINT64_C(2)); /* its own pin stands, and is older than both */
-        has(map, 2, 2);
-        samvolip_map_unpin(map);
-        samvolip_map_collect(map);
-        has(map, 2, 0);
-        put(map, 3);
-        end(map);
-        _exit(0);
-    }
+    if (child == 0)
+        go_on_in_child(map, mine);
     int status;
     EXPECT(waitpid(child, &status, 0) == child && WIFEXITED(status) && WEXITSTATUS(status) == 0);
     samvolip_map_unpin(map);

@@ -72,8 +72,10 @@ inline void tell_got(void *) noexcept {}
 template <class T> std::uint64_t number_of(T *object)
 {
     static_assert(sizeof object == sizeof(std::uint64_t), "an address is a number");
-    tell_put(const_cast<std::remove_const_t<T> *>(object));
-    return reinterpret_cast<std::uint64_t>(object);
+    const std::uint64_t number = reinterpret_cast<std::uint64_t>(object);
+    if (number <= SAMVOLIP_VALUE_MAX)
+        tell_put(const_cast<std::remove_const_t<T> *>(object));
+    return number;
 }
 template <class T> T *object_of(std::uint64_t number)
 {

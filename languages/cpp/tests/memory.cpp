@@ -74,18 +74,20 @@ void of_objects()
     };
     {
         auto map = made([] { return samvolip::object_map<object>::open(); });
-        for (std::uint64_t i = 0; i < 200; i++) {
+        for (std::uint64_t i = 0; i < 100; i++) {
             auto next = fresh(i);
             made([&] { return map.put(i % 50, std::move(next)); });
             EXPECT(!next);
         }
         const auto pin = made([&] { return map.try_pin(); });
-        for (std::uint64_t i = 0; i < 100; i++)
+        for (std::uint64_t i = 0; i < 70; i++)
             EXPECT(made([&] { return map.update(7, [&](const object *there) { return fresh(there->number + 1); }); }));
-        EXPECT(pin.get(7)->number == 257 && made([&] { return map.erase_if([](std::uint64_t key, const object &) { return key > 20; }); }) == 29);
+        EXPECT(pin.get(7)->number == 127);
+        made([&] { return map.erase_if([](std::uint64_t key, const object &) { return key > 20; }); }); // some, if it is refused
+        EXPECT(map.size().value() == 21);
         for (std::uint64_t i = 0; i < 10; i++)
             EXPECT(made([&] { return map.erase(i); }) && !made([&] { return map.try_emplace(15, i); }));
-        EXPECT(made([&] { return map.for_each([](std::uint64_t, object &) {}); }) == 11 && map.object_figures()->retired == 289);
+        EXPECT(made([&] { return map.for_each([](std::uint64_t, object &) {}); }) == 11 && map.object_figures()->retired == 159);
     }
     EXPECT(alive == 0);
 }
