@@ -202,6 +202,7 @@ static void keeps_addresses(void)
 /* ---- functions that free ------------------------------------------------------------------- */
 
 static samvolip_map *called;
+static int depth;
 
 /* Each of them puts, retires, pins and collects in its turn. */
 static void free_and_call(void *pointer)
@@ -214,11 +215,16 @@ static void free_and_call(void *pointer)
     EXPECT(samvolip_map_collect(called) == SAMVOLIP_OK);
 }
 
+/* Each of them retires the next one, and collects; but they don't lie in one another. */
 static void free_and_retire(void *pointer)
 {
     uint64_t key = ((object *)pointer)->key;
+    EXPECT(++depth == 1);
     free_object(pointer);
-    EXPECT(samvolip_map_retire(called, new_object(key), free_object) == SAMVOLIP_OK);
+    if (key > 0)
+        EXPECT(samvolip_map_retire(called, new_object(key - 1), free_and_retire) == SAMVOLIP_OK);
+    EXPECT(samvolip_map_collect(called) == SAMVOLIP_OK);
+    depth--;
 }
 
 static void functions_call_the_map(void)
@@ -232,8 +238,9 @@ static void functions_call_the_map(void)
     samvolip_object_figures figures = figures_of(called);
     EXPECT(figures.waiting == 0 && figures.retired == 1900);
     for (uint64_t i = 0; i < 200; i++)
-        EXPECT(samvolip_map_retire(called, new_object(i), free_and_retire) == SAMVOLIP_OK);
-    end(called);
+        EXPECT(samvolip_map_retire(called, new_object(i % 5), free_and_retire) == SAMVOLIP_OK);
+    samvolip_map_collect(called);
+    end(called); /* with those that they have retired */
 }
 
 /* ---- threads ------------------------------------------------------------------------------- */
