@@ -13,7 +13,7 @@ use Rattle.nb_core.specs.declared.calls.Call.{Call}
 use Rattle.nb_core.specs.declared.calls.Reply.{Reply}
 use Rattle.nb_count.specs.Counts.{CountSeatOf}
 use Rattle.nb_table.specs.Chains.{SeenBy}
-use Rattle.nb_map.specs.Calling.{HasStepped}
+use Rattle.nb_map.specs.Calling.{HasMadeSome}
 use Rattle.nb_map.specs.Maps.{MapOf, SeatOf, IsMine}
 use Rattle.nb_map.specs.NamedCalls.{put_of, remove_if_of}
 use Rattle.nb_map.specs.Progress.{Unlimited, passed_since}
@@ -108,7 +108,7 @@ pub record HasSweptAll {F : Type 0} (m : MapOf) (Step : F → (k n : ℕ) → Bo
   -- all that its steps did to the tables a read may do, of any key: it installs no table, and
   -- claims a slot only for a key that has one in the table below
   pub steps :
-      (key : ℕ) → HasStepped m.chain.shape (Get key) before.chain after.chain
+      (key : ℕ) → HasMadeSome m.chain.shape (Get key) before.chain after.chain
       (sweep_steps m.chain.shape before.chain after.chain all.made)
   -- on the counter it made one step for each key that it took out
   pub count : after.count ≡ counted_after all.made before.count
