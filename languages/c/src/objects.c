@@ -38,7 +38,7 @@ typedef struct batch {
 typedef struct place {
     _Alignas(128) atomic_ullong note; /* what the clock showed when the thread pinned the map; 0: it doesn't */
     atomic_uint pins;                 /* that lie in one another */
-    batch *open;                      /* it has room; NULL: there is none */
+    batch *_Atomic open;              /* it has room; NULL: there is none. Is stored after its count, for the child of a fork */
     atomic_ullong retired;            /* how many objects were, by this place */
     const void *_Atomic owner;        /* the thread; NULL: none; the place itself: one that ended and left its pin */
     struct place *after;
@@ -263,9 +263,12 @@ int samvolip_map_ready(samvolip_map *map)
     if (!mine || here.is_inside)
         return refusal();
     go_inside();
-    if (!mine->open && (mine->open = malloc(sizeof *mine->open)))
-        mine->open->count = 0;
-    bool is_ready = mine->open != NULL;
+    batch *open = mine->open;
+    if (!open && (open = malloc(sizeof *open))) {
+        open->count = 0;
+        atomic_store_explicit(&mine->open, open, memory_order_release);
+    }
+    bool is_ready = open != NULL;
     go_outside();
     return is_ready ? SAMVOLIP_OK : SAMVOLIP_E_OUT_OF_MEMORY;
 }
@@ -274,10 +277,11 @@ int samvolip_map_ready(samvolip_map *map)
    costs the other threads something, too. */
 static bool add(objects *of, place *mine, struct retired out)
 {
-    uint64_t count = mine->open->count;
-    mine->open->all[count] = out;
+    batch *open = mine->open;
+    uint64_t count = open->count;
+    open->all[count] = out;
     atomic_store_explicit(&mine->retired, mine->retired + 1, memory_order_release);
-    atomic_store_explicit(&mine->open->count, count + 1, memory_order_release);
+    atomic_store_explicit(&open->count, count + 1, memory_order_release);
     if (count + 1 < BATCH)
         return false;
     pthread_mutex_lock(&lock);
