@@ -20,7 +20,7 @@ use Rattle.nb_core.specs.declared.events.Event.{Event}
 use Rattle.nb_core.specs.declared.events.Event.TheVariants.{Claim, Install}
 use Rattle.nb_count.specs.Counts.{CountSeatOf}
 use Rattle.nb_table.specs.Chains.{Grown, SeenBy}
-use Rattle.nb_map.specs.Bulk.{Begun, HasSwept, HasSweptAll, Kept, Missed, Unwanted, counted_after, has_changed, read_as, removal_steps, walk_steps}
+use Rattle.nb_map.specs.Bulk.{Begun, HasSwept, HasSweptAll, Kept, Missed, Unwanted, counted_after, has_changed, read_as, removal_steps, whole_walk_steps}
 use Rattle.nb_map.specs.Calling.{HasMade, HasMadeSome, MayMake}
 use Rattle.nb_map.specs.Logs.{HasLogged, log}
 use Rattle.nb_map.specs.Maps.{IsMine, MapOf, SeatOf, accounted}
@@ -528,7 +528,7 @@ counted-reads calls count reads =
 -- and take no more steps than their walk
 pub far-reads :
     (m : MapOf) (before now : SeatOf) (place : Place) (calls : List (Call × Reply))
-    → All IsRead calls → far_steps m before now place calls ≤ walk_steps m.chain.shape
+    → All IsRead calls → far_steps m before now place calls ≤ whole_walk_steps m.chain.shape
 far-reads m before now place calls reads =
     let none : sum_by (λ (made : Call × Reply). removal_steps m.chain.shape before.chain now.chain made.0)
     calls ≡ 0

@@ -65,8 +65,8 @@ KeepsNone f k n keep g = keep ≡ false
 
 -- the most steps of a whole walk, with T slots in all tables and B the bound of a read: a load of
 -- the top word, and T (T + B + 4)
-abbrev pub walk_steps : Plan → ℕ
-walk_steps p =
+abbrev pub whole_walk_steps : Plan → ℕ
+whole_walk_steps p =
     let slots = slots_below p (generations_of p) in 1 + slots * (slots + get_steps p + 4)
 
 -- the most steps of such a call, besides those of the walk: none of a read; and of a removal those
@@ -79,7 +79,7 @@ removal_steps p before after (Write k want change) =
 -- and of all these calls together
 abbrev pub sweep_steps : Plan → (before after : SeenBy) → List (Call × Reply) → ℕ
 sweep_steps p before after calls =
-    walk_steps p + sum_by (λ (made : Call × Reply). removal_steps p before after made.0) calls
+    whole_walk_steps p + sum_by (λ (made : Call × Reply). removal_steps p before after made.0) calls
 
 -- whether the call is a write whose condition held
 abbrev pub has_changed : Call × Reply → Bool
