@@ -38,9 +38,9 @@ typedef struct batch {
 typedef struct place {
     _Alignas(128) atomic_ullong note; /* what the clock showed when the thread pinned the map; 0: it doesn't */
     atomic_uint pins;                 /* that lie in one another */
-    batch *open;                      /* it has room; NULL: there is none */
+    batch *_Atomic open;              /* it has room; NULL: there is none. Is stored after its count, for the child of a fork */
     atomic_ullong retired;            /* how many objects were, by this place */
-    const void *owner;                /* the thread; NULL: none; the place itself: one that ended and left its pin */
+    const void *_Atomic owner;        /* the thread; NULL: none; the place itself: one that ended and left its pin */
     struct place *after;
 } place;
 
@@ -98,7 +98,8 @@ static void end_locked(void)
 
 /* ---- places and pins ----------------------------------------------------------------------- */
 
-/* Locked: the place of this owner. */
+/* The place of this owner. For its own place a thread, or a handler of it, needs no lock: no place leaves the list, and the thread alone
+   gets and leaves its place. */
 static place *find(const objects *of, const void *owner)
 {
     place *one = of->places;
@@ -128,12 +129,15 @@ static place *get_place(objects *of)
     return mine;
 }
 
-/* This thread's place, where it isn't in its cell. A handler may look into the cell between any two steps. */
+/* This thread's place, where it isn't in its cell. A handler may look into the cell between any two steps; inside it leaves the cell as it
+   is, and waits for no lock: a fork may have it, and wait for the call that the handler has interrupted. */
 static __attribute__((cold, noinline)) place *look_for_place(objects *of)
 {
+    place *mine = find(of, &here);
     if (!go_inside())
-        return NULL;
-    place *mine = pthread_setspecific(at_end, &here) == 0 ? get_place(of) : NULL;
+        return mine;
+    if (!mine && pthread_setspecific(at_end, &here) == 0)
+        mine = get_place(of);
     here.ids[of->id % CELLS] = 0;
     here.places[of->id % CELLS] = mine;
     here.ids[of->id % CELLS] = mine ? of->id : 0;
@@ -141,7 +145,8 @@ static __attribute__((cold, noinline)) place *look_for_place(objects *of)
     return mine;
 }
 
-/* This thread's place; NULL inside, or without memory. The cell's id is read last: it shows if a handler has changed the cell. */
+/* This thread's place; NULL without memory, or inside if it has none yet. The cell's id is read last: it shows if a handler has changed
+   the cell. */
 static inline place *own_place(objects *of)
 {
     place *mine = here.places[of->id % CELLS];
@@ -258,9 +263,12 @@ int samvolip_map_ready(samvolip_map *map)
     if (!mine || here.is_inside)
         return refusal();
     go_inside();
-    if (!mine->open && (mine->open = malloc(sizeof *mine->open)))
-        mine->open->count = 0;
-    bool is_ready = mine->open != NULL;
+    batch *open = mine->open;
+    if (!open && (open = malloc(sizeof *open))) {
+        open->count = 0;
+        atomic_store_explicit(&mine->open, open, memory_order_release);
+    }
+    bool is_ready = open != NULL;
     go_outside();
     return is_ready ? SAMVOLIP_OK : SAMVOLIP_E_OUT_OF_MEMORY;
 }
@@ -269,10 +277,11 @@ int samvolip_map_ready(samvolip_map *map)
    costs the other threads something, too. */
 static bool add(objects *of, place *mine, struct retired out)
 {
-    uint64_t count = mine->open->count;
-    mine->open->all[count] = out;
+    batch *open = mine->open;
+    uint64_t count = open->count;
+    open->all[count] = out;
     atomic_store_explicit(&mine->retired, mine->retired + 1, memory_order_release);
-    atomic_store_explicit(&mine->open->count, count + 1, memory_order_release);
+    atomic_store_explicit(&open->count, count + 1, memory_order_release);
     if (count + 1 < BATCH)
         return false;
     pthread_mutex_lock(&lock);

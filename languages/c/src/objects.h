@@ -7,7 +7,7 @@
 typedef struct objects {
     _Alignas(128) atomic_ullong clock; /* from 1 on; it ticks when a batch is queued */
     uint64_t id;                       /* no other map of the process has it, not even later */
-    struct place *places;              /* all that threads have, or had */
+    struct place *_Atomic places;      /* all that threads have, or had */
     unsigned owned;                    /* how many places a thread has now */
     unsigned fresh;                    /* batches that were queued since somebody collected */
     struct batch *first, **last;       /* the queue, in the order of stamps */

@@ -202,6 +202,7 @@ static void keeps_addresses(void)
 /* ---- functions that free ------------------------------------------------------------------- */
 
 static samvolip_map *called;
+static int depth;
 
 /* Each of them puts, retires, pins and collects in its turn. */
 static void free_and_call(void *pointer)
@@ -214,11 +215,16 @@ static void free_and_call(void *pointer)
     EXPECT(samvolip_map_collect(called) == SAMVOLIP_OK);
 }
 
+/* Each of them retires the next one, and collects; but they don't lie in one another. */
 static void free_and_retire(void *pointer)
 {
     uint64_t key = ((object *)pointer)->key;
+    EXPECT(++depth == 1);
     free_object(pointer);
-    EXPECT(samvolip_map_retire(called, new_object(key), free_object) == SAMVOLIP_OK);
+    if (key > 0)
+        EXPECT(samvolip_map_retire(called, new_object(key - 1), free_and_retire) == SAMVOLIP_OK);
+    EXPECT(samvolip_map_collect(called) == SAMVOLIP_OK);
+    depth--;
 }
 
 static void functions_call_the_map(void)
@@ -232,8 +238,9 @@ static void functions_call_the_map(void)
     samvolip_object_figures figures = figures_of(called);
     EXPECT(figures.waiting == 0 && figures.retired == 1900);
     for (uint64_t i = 0; i < 200; i++)
-        EXPECT(samvolip_map_retire(called, new_object(i), free_and_retire) == SAMVOLIP_OK);
-    end(called);
+        EXPECT(samvolip_map_retire(called, new_object(i % 5), free_and_retire) == SAMVOLIP_OK);
+    samvolip_map_collect(called);
+    end(called); /* with those that they have retired */
 }
 
 /* ---- threads ------------------------------------------------------------------------------- */
@@ -443,6 +450,20 @@ static void handlers(void)
     end(handled);
 }
 
+/* In a child its own pin stands alone. */
+static void go_on_in_child(samvolip_map *map, const object *mine)
+{
+    samvolip_map_collect(map);
+    EXPECT(mine->check == ~UINT64_C(2)); /* the pin is older than both */
+    has(map, 2, 2);
+    samvolip_map_unpin(map);
+    samvolip_map_collect(map);
+    has(map, 2, 0);
+    put(map, 3);
+    end(map);
+    _exit(0);
+}
+
 /* A child has the pins of its thread alone, and frees what was retired. */
 static void forks(void)
 {
@@ -463,17 +484,8 @@ static void forks(void)
     has(map, 2, 2);
     pid_t child = fork();
     EXPECT(child >= 0);
-    if (child == 0) {
-        samvolip_map_collect(map);
-        EXPECT(mine->check == ~UINT64_C(2)); /* its own pin stands, and is older than both */
-        has(map, 2, 2);
-        samvolip_map_unpin(map);
-        samvolip_map_collect(map);
-        has(map, 2, 0);
-        put(map, 3);
-        end(map);
-        _exit(0);
-    }
+    if (child == 0)
+        go_on_in_child(map, mine);
     int status;
     EXPECT(waitpid(child, &status, 0) == child && WIFEXITED(status) && WEXITSTATUS(status) == 0);
     samvolip_map_unpin(map);
@@ -488,6 +500,146 @@ static void forks(void)
     end(map);
 }
 
+/* ---- handlers between any two steps -------------------------------------------------------- */
+
+#if !IS_SANITIZED
+static void (*at_each_step)(void);
+static unsigned long steps;
+
+static void on_step(int signal)
+{
+    (void)signal;
+    steps++;
+    at_each_step();
+}
+
+/* From now on the processor stops after each instruction of this thread, and a handler comes. */
+static void begin_steps(void (*each)(void))
+{
+    at_each_step = each;
+    EXPECT(signal(SIGTRAP, on_step) != SIG_ERR);
+    __asm__ volatile("lea -128(%%rsp), %%rsp\n pushfq\n orq $0x100, (%%rsp)\n popfq\n lea 128(%%rsp), %%rsp" ::: "memory", "cc");
+}
+
+static void end_steps(void)
+{
+    __asm__ volatile("lea -128(%%rsp), %%rsp\n pushfq\n andq $~0x100, (%%rsp)\n popfq\n lea 128(%%rsp), %%rsp" ::: "memory", "cc");
+}
+
+/* Maps that this thread has pinned, so many that the first and the last have their places in the same cell. */
+enum { STEPPED = 9 };
+static samvolip_map *stepped[STEPPED];
+
+static void open_stepped(void)
+{
+    for (int i = 0; i < STEPPED; i++) {
+        stepped[i] = opened();
+        EXPECT(samvolip_map_pin(stepped[i]) == SAMVOLIP_OK);
+        samvolip_map_unpin(stepped[i]);
+    }
+}
+
+static void end_stepped(void)
+{
+    for (int i = 1; i < STEPPED; i++)
+        samvolip_map_free(stepped[i]);
+    end(stepped[0]);
+}
+
+static void pin_both(void)
+{
+    for (int i = 0; i < STEPPED; i += STEPPED - 1) {
+        EXPECT(samvolip_map_pin(stepped[i]) == SAMVOLIP_OK);
+        samvolip_map_unpin(stepped[i]);
+    }
+}
+
+static void a_handler_pins_anywhere(void)
+{
+    open_stepped();
+    for (int i = 0; i <= BATCH; i++) {
+        begin_steps(pin_both);
+        EXPECT(samvolip_map_pin(stepped[0]) == SAMVOLIP_OK);
+        put(stepped[0], 1);
+        EXPECT(get(stepped[0], 1) != NULL);
+        samvolip_map_unpin(stepped[0]);
+        end_steps();
+    }
+    begin_steps(pin_both);
+    samvolip_map_collect(stepped[0]);
+    end_steps();
+    has(stepped[0], BATCH, 0);
+    end_stepped();
+}
+
+/* Another thread forks when it is asked to. The child frees what is retired. */
+static atomic_ullong asked, forked;
+static unsigned long long most; /* children: each keeps a call waiting, which so has more steps */
+
+static void *forks_when_asked(void *map)
+{
+    for (; !is_over; usleep(20)) {
+        if (asked == forked)
+            continue;
+        int status;
+        pid_t child = fork();
+        EXPECT(child >= 0);
+        if (child == 0) {
+            samvolip_map_collect(map);
+            _exit(0);
+        }
+        EXPECT(waitpid(child, &status, 0) == child && WIFEXITED(status) && WEXITSTATUS(status) == 0);
+        forked++;
+    }
+    return NULL;
+}
+
+/* Waits a little for the child; the fork may wait for this very thread. */
+static void have_a_child(void)
+{
+    if (asked == forked && asked < most)
+        asked++;
+    for (int i = 0; asked != forked && i < 20; i++)
+        usleep(100);
+}
+
+/* In the middle of a call, for which the fork waits. */
+static void have_a_child_and_pin(void)
+{
+    if (samvolip_map_contains(stepped[0], 1) == SAMVOLIP_E_NESTED)
+        have_a_child();
+    pin_both();
+}
+
+static void forks_between_any_two_steps(void)
+{
+    pthread_t other;
+    open_stepped();
+    asked = forked = 0;
+    most = 1000;
+    is_over = false;
+    EXPECT(pthread_create(&other, NULL, forks_when_asked, stepped[0]) == 0);
+    put(stepped[0], 1);
+    put(stepped[0], 1);
+    samvolip_map_collect(stepped[0]);
+    has(stepped[0], 1, 0);
+
+    alarm(100); /* ends a deadlock */
+    begin_steps(have_a_child);
+    EXPECT(samvolip_map_ready(stepped[0]) == SAMVOLIP_OK); /* takes the memory of what was freed */
+    end_steps();
+    most = asked + 3;
+    begin_steps(have_a_child_and_pin);
+    EXPECT(samvolip_map_contains(stepped[0], 1) == SAMVOLIP_PRESENT);
+    end_steps();
+    is_over = true;
+    EXPECT(pthread_join(other, NULL) == 0);
+    alarm(0);
+    EXPECT(forked > 0);
+    end_stepped();
+}
+#endif
+
 int main(int count, char **words)
 {
     rounds = count > 1 ? strtoul(words[1], NULL, 10) : rounds;
@@ -501,6 +653,10 @@ int main(int count, char **words)
     handlers();
 #ifndef __SANITIZE_ADDRESS__ /* its own lock may be held in the child */
     forks();
+#endif
+#if !IS_SANITIZED
+    a_handler_pins_anywhere();
+    forks_between_any_two_steps();
 #endif
     printf("objects: %llu made, %llu freed, in the last map; %d handlers, %d of them in the middle of a call\n", (unsigned long long)made, (unsigned long long)freed, (int)came, (int)nested);
     return 0;
