@@ -639,7 +639,9 @@ int main(int count, char **words)
     many_threads_pin();
     readers_and_writers();
     handlers();
-#ifndef __SANITIZE_ADDRESS__ /* its own lock may be held in the child */
+#ifdef __SANITIZE_ADDRESS__ /* its own lock may be held in the child */
+    (void)forks;
+#else
     forks();
 #endif
 #if !IS_SANITIZED
