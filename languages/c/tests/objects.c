@@ -430,7 +430,7 @@ static void handlers(void)
     EXPECT(signal(SIGUSR1, on_signal) != SIG_ERR);
     is_over = false;
     EXPECT(pthread_create(&sender, NULL, sends, &me) == 0);
-    for (unsigned long i = 0; i < rounds; i++) {
+    for (unsigned long i = 0; i < rounds || came == 0; i++) {
         put(handled, 1);
         samvolip_map_pin(handled);
         EXPECT(get(handled, 1)->check == ~UINT64_C(1));
