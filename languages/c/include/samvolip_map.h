@@ -131,8 +131,9 @@ void samvolip_map_free(samvolip_map *map);
 
 /*
  * For an interpreter whose threads take turns by a lock. Before a call of one key, or a guess of the size, waits for a renewal or
- * makes one, it calls `let_go`, and after that `take_back` with what `let_go` returned; no other call does. Neither may call a map.
- * It is said before other threads know the map.
+ * makes one, it calls `let_go`, and after that `take_back` with what `let_go` returned. So do those that make such calls: those of
+ * many keys, samvolip_map_update, samvolip_map_look. No other call does. Neither may call a map. It is said before other threads
+ * know the map.
  */
 void samvolip_map_lets_go(samvolip_map *map, void *(*let_go)(void), void (*take_back)(void *));
 

@@ -437,7 +437,7 @@ static void handlers(void)
     EXPECT(signal(SIGUSR1, on_signal) != SIG_ERR);
     is_over = false;
     EXPECT(pthread_create(&sender, NULL, sends, &me) == 0);
-    for (unsigned long i = 0; i < rounds; i++) {
+    for (unsigned long i = 0; i < rounds || came == 0; i++) {
         put(handled, 1);
         samvolip_map_pin(handled);
         EXPECT(get(handled, 1)->check == ~UINT64_C(1));
@@ -651,7 +651,9 @@ int main(int count, char **words)
     many_threads_pin();
     readers_and_writers();
     handlers();
-#ifndef __SANITIZE_ADDRESS__ /* its own lock may be held in the child */
+#ifdef __SANITIZE_ADDRESS__ /* its own lock may be held in the child */
+    (void)forks;
+#else
     forks();
 #endif
 #if !IS_SANITIZED
