@@ -48,9 +48,6 @@ module _ (text : List ℕ) (i number : ℕ) (h : HasRead text i number) (in_text
   weight : digit_value (get_or text i 0) + 48 ≡ get_or text i 0
   weight = weight_of (get_or text i 0) (both _ _ first_and_rest).0
 
-  pub a_digit : 48 ≤ get_or text i 0
-  a_digit = omega (arith, weight)
-
   value-next :
       (digit new : ℕ) → digit ≡ get_or text i 0 - 48 → new ≡ number * 10 + digit
       → digits_value_after 10 new (drop (i + 1) text) ≡ digits_value 10 text

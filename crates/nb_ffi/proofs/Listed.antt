@@ -6,7 +6,7 @@ use Rattle.nb_map.specs.Maps.{SeatOf}
 use Rattle.nb_map.specs.Promises as of_map
 use Rattle.nb_map.specs.Walks.{IsWalkOf, bound_at, walk_from}
 use Rattle.nb_map.specs.declared.map.walks.WalkPlace.{WalkPlace}
-use Rattle.nb_ffi.specs.Entries.{entry_of, written_over}
+use Rattle.nb_ffi.specs.Entries.{entry_in_c, written_over}
 use Rattle.nb_ffi.specs.Listing.{HasListedWholePart, HasShownUpTo}
 use Rattle.nb_ffi.specs.Listing.HasShownUpTo.{Begun, Showed}
 use Rattle.nb_ffi.specs.declared.ended_map.MapEntry.{MapEntry}
@@ -37,17 +37,17 @@ come-begun end before from room = record {
 -- one entry more
 written-one :
     (pairs : List (ℕ × ℕ)) (room : List MapEntry) (pair : ℕ × ℕ) → length pairs < length room
-    → slice_set (written_over pairs room) (length pairs) (entry_of pair)
+    → slice_set (written_over pairs room) (length pairs) (entry_in_c pair)
     ≡ written_over (pairs ++ pair ∷ []) room
 written-one pairs room pair fits =
-    let front = map entry_of pairs in
-    let long : length front ≡ length pairs = length-map pairs entry_of in
-    ap (λ rest. slice_set (front ++ rest) (length pairs) (entry_of pair))
-    (drop_more room (length pairs) (entry_of pair) fits)
-    ∙ set_at front _ _ (entry_of pair) (length pairs) long
-    ∙ sym (append_assoc front (entry_of pair ∷ []) _)
-    ∙ ap (λ l. l ++ drop (length pairs + 1) room) (sym (map-append entry_of pairs (pair ∷ [])))
-    ∙ ap (λ n. map entry_of (pairs ++ pair ∷ []) ++ drop n room) (sym (length_push pairs pair))
+    let front = map entry_in_c pairs in
+    let long : length front ≡ length pairs = length-map pairs entry_in_c in
+    ap (λ rest. slice_set (front ++ rest) (length pairs) (entry_in_c pair))
+    (drop_more room (length pairs) (entry_in_c pair) fits)
+    ∙ set_at front _ _ (entry_in_c pair) (length pairs) long
+    ∙ sym (append_assoc front (entry_in_c pair ∷ []) _)
+    ∙ ap (λ l. l ++ drop (length pairs + 1) room) (sym (map-append entry_in_c pairs (pair ∷ [])))
+    ∙ ap (λ n. map entry_in_c (pairs ++ pair ∷ []) ++ drop n room) (sym (length_push pairs pair))
 
 -- a call of each walk that the seat began and that is here
 abbrev pub Walked :
@@ -62,13 +62,13 @@ module _ {end : ℕ} {before : HandleOf} {from : WalkPlace} {room : List MapEntr
       {now after : HandleOf} {at to : WalkPlace} {room' : List MapEntry} {count : ℕ}
       (pair : ℕ × ℕ) → HasCome end before from room now at room' count → count < length room
       → Walked end now after at to (Some pair) → KeepsRest now after
-      → HasCome end before from room after to (slice_set room' count (entry_of pair)) (count + 1)
+      → HasCome end before from room after to (slice_set room' count (entry_in_c pair)) (count + 1)
   come-more {now} {after} {at} {to} {room'} {count} pair come less walked rest = record {
     pairs = come.pairs ++ pair ∷ [];
     many = length_push come.pairs pair ∙ ap (λ n. n + 1) come.many;
     fits = omega (arith, length_push come.pairs pair, come.many, less);
-    written = ap (λ l. slice_set l count (entry_of pair)) come.written
-        ∙ ap (λ n. slice_set (written_over come.pairs room) n (entry_of pair)) (sym come.many)
+    written = ap (λ l. slice_set l count (entry_in_c pair)) come.written
+        ∙ ap (λ n. slice_set (written_over come.pairs room) n (entry_in_c pair)) (sym come.many)
         ∙ written-one come.pairs room pair (omega (arith, come.many, less));
     shown = λ begun is.
         let so_far = come.shown begun is in

@@ -4,12 +4,12 @@ use Rattle.nb_ffi.specs.declared.codes.TheConstants.{OK, E_OUT_OF_MEMORY, E_ROOM
 use Rattle.nb_ffi.specs.declared.ended_map.MapEntry.{MapEntry}
 
 -- an entry in C
-abbrev pub entry_of : ℕ × ℕ → MapEntry
-entry_of pair = record { key = pair.0; number = pair.1 }
+abbrev pub entry_in_c : ℕ × ℕ → MapEntry
+entry_in_c pair = record { key = pair.0; number = pair.1 }
 
 -- the array, with these entries written over its first places
 abbrev pub written_over : List (ℕ × ℕ) → List MapEntry → List MapEntry
-written_over entries room = map entry_of entries ++ drop (length entries) room
+written_over entries room = map entry_in_c entries ++ drop (length entries) room
 
 -- A request for these entries came to this code: they are in the array; or the array is as it was,
 -- and too small, or there was no memory.

@@ -6,8 +6,8 @@ use Rattle.nb_map.specs.Logs.{HaveEmptyLogs}
 use Rattle.nb_map.specs.Maps.{AreMine, IsMadeFor, new_seats}
 
 -- it stands for a handle of a map
-abbrev pub IsOpen : Option HandleOf → Type 0
-IsOpen held = (handle : HandleOf) × (held ≡ Some handle)
+abbrev pub IsOpenHandle : Option HandleOf → Type 0
+IsOpenHandle held = (handle : HandleOf) × (held ≡ Some handle)
 
 -- it stands for a handle that has all seats of its map
 abbrev pub HasAllSeats : Option HandleOf → Type 0

@@ -1,7 +1,7 @@
 -- What a program of C was compiled with.
 use Rattle.std.specs.Prelude.{◌==◌, ◌&&◌, ℤ, Bool, nat_le, if◌then◌else◌, Result, Err}
 use Rattle.nb_core.specs.Plans.{Plan}
-use Rattle.nb_ffi.specs.Shapes.{checked_shape}
+use Rattle.nb_ffi.specs.Shapes.{checked_map_shape}
 use Rattle.nb_ffi.specs.declared.codes.TheConstants.{E_VERSION}
 use Rattle.nb_ffi.specs.declared.header.Header.{Header}
 use Rattle.nb_ffi.specs.declared.header.TheConstants.{CURSOR_SIZE, ENTRY_SIZE, HANDLE_SIZE, OCCUPANCY_SIZE, OLDEST, REPLY_SIZE, SHAPE_SIZE, VERSION}
@@ -20,5 +20,5 @@ is_ours header =
 
 -- the plan of a shape that a program with this header asks for, or the code of the first thing that
 -- is wrong: that of another header comes before all else
-abbrev pub plan_asked : Header → MapShape → Result Plan ℤ
-plan_asked header shape = if is_ours header then checked_shape shape else Err E_VERSION
+abbrev pub checked_with_header : Header → MapShape → Result Plan ℤ
+checked_with_header header shape = if is_ours header then checked_map_shape shape else Err E_VERSION

@@ -22,8 +22,8 @@ in_codes (Ok p) = Ok p
 in_codes (Err fault) = Err (shape_code fault)
 
 -- the plan of a shape, or the code of the first thing that is wrong with it
-abbrev pub checked_shape : MapShape → Result Plan ℤ
-checked_shape shape =
+abbrev pub checked_map_shape : MapShape → Result Plan ℤ
+checked_map_shape shape =
     if nat_le shape.tables MAX_GENERATIONS
     then in_codes (checked_tuned (take shape.tables shape.exponents) shape)
     else Err E_TABLES

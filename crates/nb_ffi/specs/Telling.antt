@@ -166,13 +166,13 @@ pub data IsClose (code : ℤ) (before after : Option HandleOf) (left left' : Opt
       → after ≡ None → left' ≡ left
       → IsClose code before after left left'
 
--- the handle has this ended map
-abbrev pub IsEnd : EndedOf → Option EndedMap → Type 0
-IsEnd end handle = handle ≡ Some (record { ended = Some end })
+-- the handle holds this ended map
+abbrev pub HoldsEnd : EndedOf → Option EndedMap → Type 0
+HoldsEnd end handle = handle ≡ Some (record { ended = Some end })
 
 -- the handle has an ended map
 abbrev pub HasEnd : Option EndedMap → Type 0
-HasEnd handle = (end : EndedOf) × IsEnd end handle
+HasEnd handle = (end : EndedOf) × HoldsEnd end handle
 
 -- A look at an ended map came to this code: its number at the key is written, or there is none, and
 -- 0 is written; or the key is none, and nothing is written.

@@ -42,31 +42,31 @@ pub data IsSettling (code : ℤ) (size size' : ℕ) (before after : Option Handl
 -- ---- all entries
 
 -- these are the entries of the handle's map, which goes on
-pub record HasListed (entries : List (ℕ × ℕ)) (before after : HandleOf) : Type 0 where
+pub record HasListedMap (entries : List (ℕ × ℕ)) (before after : HandleOf) : Type 0 where
   pub promised : HaveListed (seats_of before) (seats_of after) entries
   pub kept : IsKept before after
   pub whole : IsWhole before
 
 -- Entries were listed with this code, and it is written how many: they are in the array, or that is
 -- as it was, and too small. Or nothing is written, for want of memory or of seats.
-pub data IsListing (code : ℤ) (count count' : ℕ) (room room' : List MapEntry)
+pub data IsMapListing (code : ℤ) (count count' : ℕ) (room room' : List MapEntry)
     (before after : Option HandleOf) : Type 0 where
   Listed :
       code ≡ OK → (entries : List (ℕ × ℕ)) → count' ≡ length entries
       → length entries ≤ length room → room' ≡ written_over entries room
-      → StaysOpen before after (HasListed entries)
-      → IsListing code count count' room room' before after
+      → StaysOpen before after (HasListedMap entries)
+      → IsMapListing code count count' room room' before after
   Long :
       code ≡ E_ROOM → (entries : List (ℕ × ℕ)) → count' ≡ length entries
-      → length room < length entries → room' ≡ room → StaysOpen before after (HasListed entries)
-      → IsListing code count count' room room' before after
+      → length room < length entries → room' ≡ room → StaysOpen before after (HasListedMap entries)
+      → IsMapListing code count count' room room' before after
   Kept :
       code ≡ E_OUT_OF_MEMORY → count' ≡ count → room' ≡ room → HasAllSeats before
       → StaysOpen before after IsKept
-      → IsListing code count count' room room' before after
+      → IsMapListing code count count' room room' before after
   Lacks :
       code ≡ E_NOT_ALL_SEATS → count' ≡ count → room' ≡ room → LacksSeats before after
-      → IsListing code count count' room room' before after
+      → IsMapListing code count count' room room' before after
 
 -- ---- a new map
 

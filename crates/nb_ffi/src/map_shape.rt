@@ -1,6 +1,6 @@
 //! The shape of a map, as C asks for it.
 ghost use Rattle.std.specs.Prelude.{◌≡◌, take};
-ghost use Rattle.nb_ffi.specs.Shapes.{checked_shape, checked_tuned};
+ghost use Rattle.nb_ffi.specs.Shapes.{checked_map_shape, checked_tuned};
 
 use crate::codes::{E_TABLES, shape_code};
 use nb_core::{MAX_GENERATIONS, Shape, ShapeFault};
@@ -20,7 +20,7 @@ pub struct MapShape {
 impl MapShape {
     /// The shape of the map, or the code of the first thing that is wrong with it.
     pub(crate) fn checked(&self) -> Result<Shape, i32>
-        ensures { result ≡ checked_shape self.now }
+        ensures { result ≡ checked_map_shape self.now }
     {
         let tables = self.tables as usize;
         if tables > MAX_GENERATIONS {

@@ -14,7 +14,7 @@ use Rattle.nb_map.specs.Promises.{HasGot, HasWritten, Outcome, Refused, Replied}
 use Rattle.nb_map.specs.declared.faults.PutFault.TheVariants as put_fault
 use Rattle.nb_long.proofs.Rounds.{HasIdled, HasRound, exchange-won, last-then, lost-round, round-worked, worked-then}
 use Rattle.nb_long.specs.Promises.{HasAnsweredIf, HasChangedIf, HasGotValue, HasMadeRound}
-use Rattle.nb_long.specs.Typed.{HasCompared, IsIdle, LongMapOf, read_of, round_steps}
+use Rattle.nb_long.specs.Typed.{HasCompared, IsIdle, LongMapOf, read_that_found, round_steps}
 use Rattle.nb_long.specs.Updating.{IsLost}
 use Rattle.nb_long.specs.declared.map.Compared.{Compared}
 use Rattle.nb_long.specs.declared.map.Unshown.{Unshown}
@@ -56,7 +56,7 @@ module _
         → HasMadeRound eq m key value new before after
         (Ok (Some (record { found = Some shown; done = true })))
     matches shown reply round shows equal matched =
-        let asked : Call × Reply = read_of key (Some shown.index) in
+        let asked : Call × Reply = read_that_found key (Some shown.index) in
         record {
           answered = (
             shows,

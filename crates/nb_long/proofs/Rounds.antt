@@ -27,7 +27,7 @@ use Rattle.nb_count.specs.Counts.{CountSeatOf}
 use Rattle.nb_table.proofs.Theorems.{steps_add_up}
 use Rattle.nb_table.specs.Chains.{ChainOf, Grown, IsOwn, SeenBy}
 use Rattle.nb_map.proofs.Theorems.{logs_add_up, replies_fit}
-use Rattle.nb_map.specs.Calling.{HasCountedTurned, HasStepped, MayMake}
+use Rattle.nb_map.specs.Calling.{HasCountedTurned, HasMadeSome, MayMake}
 use Rattle.nb_map.specs.Logs.{HasLogged, log}
 use Rattle.nb_map.specs.Maps.{HasWorked, IsMine, MapOf, SeatOf, accounted}
 use Rattle.nb_map.specs.NamedCalls.{change_to, exchange_of, want_of}
@@ -36,7 +36,7 @@ use Rattle.nb_map.specs.Promises.{Found, HasGot, HasWritten, Matched, Outcome, R
 use Rattle.nb_map.specs.Refusals.{IsJust}
 use Rattle.nb_map.specs.Steps.{put_steps}
 use Rattle.nb_long.proofs.Passed.{others-won}
-use Rattle.nb_long.specs.Typed.{HasLostRound, HasMadeLast, IsIdle, IsLockFreeIf, LongMapOf, passed_on, read_of, round_steps}
+use Rattle.nb_long.specs.Typed.{HasLostRound, HasMadeLast, IsIdle, IsLockFreeIf, LongMapOf, passed_on, read_that_found, round_steps}
 use Rattle.nb_long.specs.Updating.{IsLost}
 
 -- ---- steps as of another call of the key
@@ -56,11 +56,11 @@ may-as p before after c c' same fills (Claim s g i k) may = (
 may-as p before after c c' same fills (Install s g k) may = (may.0 ∙ sym same, fills may.1)
 may-as p before after c c' same fills e may = may
 
-pub stepped-as :
+pub made_some-as :
     {p : Plan} {c : Call} {before after : SeenBy} {most : ℕ} (c' : Call)
-    → key_of_call c' ≡ key_of_call c → (Fills c → Fills c') → HasStepped p c before after most
-    → HasStepped p c' before after most
-stepped-as {p} {c} {before} {after} c' same fills (made, steps) = (
+    → key_of_call c' ≡ key_of_call c → (Fills c → Fills c') → HasMadeSome p c before after most
+    → HasMadeSome p c' before after most
+made_some-as {p} {c} {before} {after} c' same fills (made, steps) = (
   made,
   record {
     own = steps.own;
@@ -75,10 +75,10 @@ stepped-as {p} {c} {before} {after} c' same fills (made, steps) = (
 )
 
 -- more steps may be allowed than were made
-pub stepped-within :
+pub made_some-within :
     {p : Plan} {c : Call} {before after : SeenBy} (most most' : ℕ) → most ≤ most'
-    → HasStepped p c before after most → HasStepped p c before after most'
-stepped-within most most' below (made, steps) = (
+    → HasMadeSome p c before after most → HasMadeSome p c before after most'
+made_some-within most most' below (made, steps) = (
   made,
   record {
     own = steps.own;
@@ -92,10 +92,10 @@ stepped-within most most' below (made, steps) = (
 )
 
 -- no step
-pub stepped-none :
+pub made_some-none :
     (chain : ChainOf) (c : Call) (seat : SeenBy) → IsOwn chain seat
-    → HasStepped chain.shape c seat seat 0
-stepped-none chain c seat own = (
+    → HasMadeSome chain.shape c seat seat 0
+made_some-none chain c seat own = (
   [],
   record {
     own = [];
@@ -159,12 +159,12 @@ may-lasts p before begun after ended c more later lasting (Install s g k) may = 
 may-lasts p before begun after ended c more later lasting e may = tt
 
 -- some steps after others
-pub stepped-then :
+pub made_some-then :
     (chain : ChainOf) {c : Call} {most most' : ℕ} {before then' after : SeenBy}
-    → IsOwn chain before → HasStepped chain.shape c before then' most
-    → HasStepped chain.shape c then' after most'
-    → HasStepped chain.shape c before after (most + most')
-stepped-then chain {c} {before = before} {then'} {after} own (_, a) (_, b) =
+    → IsOwn chain before → HasMadeSome chain.shape c before then' most
+    → HasMadeSome chain.shape c then' after most'
+    → HasMadeSome chain.shape c before after (most + most')
+made_some-then chain {c} {before = before} {then'} {after} own (_, a) (_, b) =
     let p = chain.shape in
     let own' = steps_add_up.own own a.grown in
     let last = steps_add_up.own own' b.grown in
@@ -319,9 +319,10 @@ module _
         (c : Call) → key_of_call c ≡ key → (Fills exchange → Fills c)
         → HasWorked m.map c before after (round_steps p)
     round-worked c same fills = record {
-      steps = stepped-as c same fills (stepped-then m.map.chain round.own.chain
-          (stepped-as {c = call.Get key} exchange refl (λ fills. absurd cc) round.got.worked.steps)
-          (subst (λ t. HasStepped p exchange round.read.chain after.chain (put_steps p t))
+      steps = made_some-as c same fills (made_some-then m.map.chain round.own.chain
+          (made_some-as {c = call.Get key} exchange refl (λ fills. absurd cc)
+          round.got.worked.steps)
+          (subst (λ t. HasMadeSome p exchange round.read.chain after.chain (put_steps p t))
           (one-try (passed_since exchange round.read.chain after.chain))
           round.wrote.non_blocking.steps));
       net = round.wrote.non_blocking.net;
@@ -335,7 +336,7 @@ pub lost-round :
     → HasLostRound key before after
 lost-round {key = key} {found} {new} {before} {after} (Replied reply) round missed =
     let exchange : Call = exchange_of key found new in
-    let asked : Call × Reply = read_of key found in
+    let asked : Call × Reply = read_that_found key found in
     let both = logs_add_up.more round.got.replied round.wrote.answered in
     record {
       made = (exchange, reply) ∷ asked ∷ [];
@@ -351,7 +352,7 @@ lost-round {key = key} {found} {new} {before} {after} (Replied reply) round miss
     }
 lost-round {m = m} {key} {found} {new} {before} {after} (Refused refusal) round lost =
     let exchange : Call = exchange_of key found new in
-    let asked : Call × Reply = read_of key found in
+    let asked : Call × Reply = read_that_found key found in
     let just : 1 ≤ passed_on key round.read after =
     subst (IsJust m.map.chain.shape exchange round.read.chain after.chain (Tries 1)) lost
     round.wrote.answered.just in
@@ -377,7 +378,7 @@ pub record HasIdled (m : LongMapOf) (c : Call) (key : ℕ) (before after : SeatO
   pub calls : List (Call × Reply)
   pub idle : All (IsIdle key) calls
   pub logged : HasLogged before after calls
-  pub steps : HasStepped m.map.chain.shape c before.chain after.chain
+  pub steps : HasMadeSome m.map.chain.shape c before.chain after.chain
       (passed_on key before after * round_steps m.map.chain.shape)
   pub count : after.count ≡ before.count
 
@@ -388,8 +389,8 @@ idled-none {m} {key} {seat} c mine = record {
   calls = [];
   idle = All-nil (IsIdle key);
   logged = logs_add_up.none mine;
-  steps = stepped-within 0 (passed_on key seat seat * round_steps m.map.chain.shape)
-      (omega arith) (stepped-none m.map.chain c seat.chain mine.chain);
+  steps = made_some-within 0 (passed_on key seat seat * round_steps m.map.chain.shape)
+      (omega arith) (made_some-none m.map.chain c seat.chain mine.chain);
   count = refl;
 }
 
@@ -408,7 +409,7 @@ module _
       calls = idled.calls;
       idle = idled.idle;
       logged = idled.logged;
-      steps = stepped-as c' same fills idled.steps;
+      steps = made_some-as c' same fills idled.steps;
       count = idled.count;
     }
 
@@ -422,11 +423,11 @@ module _
           calls = lost.made ++ idled.calls;
           idle = All-append (IsIdle key) lost.made idled.calls lost.idle idled.idle;
           logged = logs_add_up.more idled.logged lost.logged;
-          steps = stepped-within (passed_on key before now * most + most)
+          steps = made_some-within (passed_on key before now * most + most)
               (passed_on key before after * most)
               (one-more (passed_on key before now) (passed_on key before after) most
               (omega (arith, lost.won, sum)))
-              (stepped-then m.map.chain mine.chain idled.steps worked.steps);
+              (made_some-then m.map.chain mine.chain idled.steps worked.steps);
           count = lost.count ∙ idled.count;
         }
       where
@@ -441,11 +442,11 @@ module _
     worked-then {after} most' within worked =
         let sum = passed-sum key before now after idled.steps.1.grown worked.steps.1.grown in
         record {
-          steps = stepped-within (passed_on key before now * most + most')
+          steps = made_some-within (passed_on key before now * most + most')
               ((passed_on key before after + 1) * most)
               (one-more (passed_on key before now) (passed_on key before after) most most'
               (omega (arith, sum)) within)
-              (stepped-then m.map.chain mine.chain idled.steps worked.steps);
+              (made_some-then m.map.chain mine.chain idled.steps worked.steps);
           net = worked.net;
           count = worked.count ∙ ap (accounted worked.net) idled.count;
         }
@@ -467,8 +468,8 @@ module _
 pub free-none :
     (m : LongMapOf) (key : ℕ) (seat : SeatOf) → IsMine m.map seat → IsLockFreeIf m key seat seat
 free-none m key seat mine = record {
-  steps = stepped-within 0 ((passed_on key seat seat + 1) * round_steps m.map.chain.shape)
-      (omega arith) (stepped-none m.map.chain (call.Get key) seat.chain mine.chain);
+  steps = made_some-within 0 ((passed_on key seat seat + 1) * round_steps m.map.chain.shape)
+      (omega arith) (made_some-none m.map.chain (call.Get key) seat.chain mine.chain);
   net = pos 0;
   count = sym (counted-none seat.count);
 }

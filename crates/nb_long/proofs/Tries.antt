@@ -13,10 +13,10 @@ use Rattle.nb_map.specs.Progress.{Tries}
 use Rattle.nb_map.specs.Promises.{HasGot, HasWritten, Outcome, Refused}
 use Rattle.nb_map.specs.Steps.{get_steps}
 use Rattle.nb_map.specs.declared.faults.PutFault.TheVariants as put_fault
-use Rattle.nb_long.proofs.Rounds.{HasIdled, HasRound, idled-as, idled-more, idled-none, last-then, lost-round, passed-sum, round-worked, stepped-as, worked-then}
+use Rattle.nb_long.proofs.Rounds.{HasIdled, HasRound, idled-as, idled-more, idled-none, last-then, lost-round, made_some-as, passed-sum, round-worked, worked-then}
 use Rattle.nb_long.specs.Promises.{HasGotValue}
 use Rattle.nb_long.specs.Stores.{GivesBack}
-use Rattle.nb_long.specs.Typed.{HasMadeLast, IsIdle, IsShown, LongMapOf, number_of, passed_on, read_of, round_steps}
+use Rattle.nb_long.specs.Typed.{HasMadeLast, IsIdle, IsValueShown, LongMapOf, number_of, passed_on, read_that_found, round_steps}
 use Rattle.nb_long.specs.Updating.{AreShown, Begun, HasBegunTry, HasEndedTry, HasExchanged, HasLost, HasTriedOnce, HasUpdated, IsLastTry, IsLockFreeAs, IsLost, IsStored, Lost, as_update_fault, calls_asked, exchange_for}
 use Rattle.nb_long.specs.declared.store.StoreFault.{StoreFault}
 use Rattle.nb_long.specs.declared.store.StoreFault.TheVariants as store_fault
@@ -29,7 +29,7 @@ use Rattle.nb_long.specs.declared.map.updating.Updated.{Updated}
 -- a number that is shown is that of its token
 number-shown :
     {V : Type 0} (store : Shelves) (number : Option ℕ) (found : Option (Where V))
-    → IsShown store number (Ok found) → number ≡ number_of found
+    → IsValueShown store number (Ok found) → number ≡ number_of found
 number-shown store number None is = is
 number-shown store number (Some token) is = is.1
 
@@ -86,7 +86,7 @@ module _
     {before read : SeatOf} {function left : F} {found : Option (Where V)} {value : Option V}
     (asked : HasBegunTry m Step key before function found value read left)
   where
-    read-last : HasMadeLast key (read_of key (number_of found)) before read
+    read-last : HasMadeLast key (read_that_found key (number_of found)) before read
     read-last = record {
       earlier = [];
       idle = All-nil (IsIdle key);
@@ -129,8 +129,8 @@ module _
           subst (λ (updated : Updated V). IsLastTry m Step key before before function after left
           (Ok updated)) (sym is) (
             record {
-              earlier = read_of key (number_of found) ∷ [];
-              idle = All-cons (IsIdle key) (read_of key (number_of found)) [] refl
+              earlier = read_that_found key (number_of found) ∷ [];
+              idle = All-cons (IsIdle key) (read_that_found key (number_of found)) [] refl
                   (All-nil (IsIdle key));
               logged = logs_add_up.more (got-of asked.got).replied wrote.answered;
             },
@@ -138,11 +138,12 @@ module _
           )
       exchanged-so (Ok None) (outcome, wrote, lost) = (found, new, outcome, once wrote, lost)
       exchanged-so (Err (fault.Full receipt)) (none, some, wrote) = (
-        subst (λ found. HasMadeLast key (read_of key (number_of found)) before after) none (record {
-          earlier = [];
-          idle = All-nil (IsIdle key);
-          logged = logs_add_up.more (got-of asked.got).replied wrote.answered.unmade;
-        }),
+        subst (λ found. HasMadeLast key (read_that_found key (number_of found)) before after) none
+            (record {
+              earlier = [];
+              idle = All-nil (IsIdle key);
+              logged = logs_add_up.more (got-of asked.got).replied wrote.answered.unmade;
+            }),
         subst₂ (λ found new. HasTriedOnce m Step key before function found new after left
             (Refused put_fault.Full)) none some (once wrote),
       )
@@ -243,7 +244,7 @@ module _ {F V : Type 0} {m : LongMapOf} {Step : F → Option (Bor V) → Option 
     call = come.one;
     asked = come.asked;
     worked = worked-then mine come.idled (get_steps m.map.chain.shape) (omega arith) (record {
-      steps = stepped-as {c = Get key} come.one come.about (λ fills. absurd cc)
+      steps = made_some-as {c = Get key} come.one come.about (λ fills. absurd cc)
           got.worked.steps;
       net = got.worked.net;
       count = got.worked.count;
@@ -253,7 +254,7 @@ module _ {F V : Type 0} {m : LongMapOf} {Step : F → Option (Bor V) → Option 
   -- ---- the end
 
   shown-found :
-      (number : Option ℕ) (found : Option (Where V)) → IsShown m.store number (Ok found)
+      (number : Option ℕ) (found : Option (Where V)) → IsValueShown m.store number (Ok found)
       → IfSome found (λ (token : Where V). Shows m.store token)
   shown-found number None is = tt
   shown-found number (Some token) is = is.0

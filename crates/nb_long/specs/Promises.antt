@@ -14,7 +14,7 @@ use Rattle.nb_map.specs.Progress.{Unlimited}
 use Rattle.nb_map.specs.Promises.{HasGot, HasWritten, Refused, Replied}
 use Rattle.nb_map.specs.declared.faults.PutFault.TheVariants as put_fault
 use Rattle.nb_long.specs.Stores.{HasStored}
-use Rattle.nb_long.specs.Typed.{HasCompared, HasLostRound, IsLockFreeIf, IsShown, IsUnshown, LongMapOf, number_of, put_where, round_steps}
+use Rattle.nb_long.specs.Typed.{HasCompared, HasLostRound, IsLockFreeIf, IsUnshown, IsValueShown, LongMapOf, number_of, put_where, round_steps}
 use Rattle.nb_long.specs.declared.map.Compared.{Compared}
 use Rattle.nb_long.specs.declared.map.LongFault.{LongFault}
 use Rattle.nb_long.specs.declared.map.LongFault.TheVariants as fault
@@ -30,41 +30,42 @@ pub record HasGotValue {V : Type 0} (m : LongMapOf) (key : ℕ) (before after : 
   pub number : Option ℕ
   pub got : HasGot m.map key before after number
   -- and what the store has under it is shown
-  pub shown : IsShown m.store number result
+  pub shown : IsValueShown m.store number result
 
 -- ---- writes
 
 -- The value is stored, and the answer has what reads it. Or there was no memory for it, and it
 -- comes back.
-abbrev pub IsKept : {V : Type 0} → Shelves → V → Result (Stored V) (LongFault V) → Type 0
-IsKept store value (Ok stored) = HasStored store value stored.receipt
-IsKept store value (Err (fault.OutOfMemory back)) = back ≡ value
-IsKept store value (Err (fault.ValueRange placed)) =
+abbrev pub IsStoredOrReturned :
+    {V : Type 0} → Shelves → V → Result (Stored V) (LongFault V) → Type 0
+IsStoredOrReturned store value (Ok stored) = HasStored store value stored.receipt
+IsStoredOrReturned store value (Err (fault.OutOfMemory back)) = back ≡ value
+IsStoredOrReturned store value (Err (fault.ValueRange placed)) =
     HasStored store value placed × (VALUE_MAX < placed.index)
-IsKept store value (Err (fault.Full receipt)) = HasStored store value receipt
-IsKept store value (Err (fault.Unshown receipt)) = HasStored store value receipt
+IsStoredOrReturned store value (Err (fault.Full receipt)) = HasStored store value receipt
+IsStoredOrReturned store value (Err (fault.Unshown receipt)) = HasStored store value receipt
 
 -- The seat has made the map's one write that puts the value's number where the condition holds, and
 -- the answer is that write's. Or the map was full. Where the value has no number, no call was made.
-abbrev pub HasPut :
+abbrev pub HasPutNumber :
     {V : Type 0} → LongMapOf → (key : ℕ) → Want → (before after : SeatOf)
     → Result (Stored V) (LongFault V) → Type 0
-HasPut m key want before after (Ok stored) =
+HasPutNumber m key want before after (Ok stored) =
     HasWritten m.map (put_where key want stored.receipt) before after Unlimited
     (Replied (record { before = stored.before; matched = stored.done }))
-HasPut m key want before after (Err (fault.OutOfMemory back)) = after ≡ before
-HasPut m key want before after (Err (fault.ValueRange placed)) = after ≡ before
-HasPut m key want before after (Err (fault.Full receipt)) =
+HasPutNumber m key want before after (Err (fault.OutOfMemory back)) = after ≡ before
+HasPutNumber m key want before after (Err (fault.ValueRange placed)) = after ≡ before
+HasPutNumber m key want before after (Err (fault.Full receipt)) =
     HasWritten m.map (put_where key want receipt) before after Unlimited (Refused put_fault.Full)
-HasPut m key want before after (Err (fault.Unshown receipt)) = ⊥
+HasPutNumber m key want before after (Err (fault.Unshown receipt)) = ⊥
 
 -- what `put`, `put_if_absent` and `replace` promise
 pub record HasPutValue {V : Type 0} (m : LongMapOf) (key : ℕ) (want : Want) (value : V)
     (before after : SeatOf) (result : Result (Stored V) (LongFault V)) : Type 0 where
   -- the value is stored, or it comes back
-  pub kept : IsKept m.store value result
+  pub kept : IsStoredOrReturned m.store value result
   -- once it is stored, this is a write of the map, with all that such a write promises
-  pub wrote : HasPut m key want before after result
+  pub wrote : HasPutNumber m key want before after result
   -- it compares no values
   pub uncompared : IfOk result (λ stored. stored.compared ≡ None)
   -- the seat is still the map's
@@ -114,7 +115,7 @@ HasReplaced eq m key old before after (Err (fault.Unshown receipt)) = IsUnshown 
 pub record HasReplacedIf {V : Type 0} (eq : V → V → Bool) (m : LongMapOf) (key : ℕ) (old new : V)
     (before after : SeatOf) (result : Result (Stored V) (LongFault V)) : Type 0 where
   -- the new value is stored, or it comes back
-  pub kept : IsKept m.store new result
+  pub kept : IsStoredOrReturned m.store new result
   -- its number was put just where the value that was compared is equal to the old one
   pub answered : HasReplaced eq m key old before after result
   pub lock_free : IsLockFreeIf m key before after

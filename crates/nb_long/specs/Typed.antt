@@ -30,10 +30,11 @@ pub record LongMapOf : Type 0 where
 
 -- What is found where the map has this number at a key, or none: nothing where it has none; else
 -- what the store shows under the number, if it shows anything.
-abbrev pub IsShown : {V : Type 0} → Shelves → Option ℕ → Result (Option (Where V)) Unshown → Type 0
-IsShown store number (Ok None) = number ≡ None
-IsShown store number (Ok (Some found)) = Shows store found × (number ≡ Some found.index)
-IsShown store number (Err unshown) = (n : ℕ) × (number ≡ Some n)
+abbrev pub IsValueShown :
+    {V : Type 0} → Shelves → Option ℕ → Result (Option (Where V)) Unshown → Type 0
+IsValueShown store number (Ok None) = number ≡ None
+IsValueShown store number (Ok (Some found)) = Shows store found × (number ≡ Some found.index)
+IsValueShown store number (Err unshown) = (n : ℕ) × (number ≡ Some n)
 
 -- ---- writes
 
@@ -85,15 +86,15 @@ pub record HasMadeLast (key : ℕ) (made : Call × Reply) (before after : SeatOf
   pub logged : HasLogged before after (made ∷ earlier)
 
 -- a read of the key that found this number, or none
-abbrev pub read_of : (key : ℕ) → Option ℕ → Call × Reply
-read_of key number = (call.Get key, reply_at (call.Get key) number)
+abbrev pub read_that_found : (key : ℕ) → Option ℕ → Call × Reply
+read_that_found key number = (call.Get key, reply_at (call.Get key) number)
 
 -- the last call where this number was found: if the change is done, the write that matched on the
 -- number, else the read that found it
 abbrev pub last_call : (key n : ℕ) → Change → (done : Bool) → Call × Reply
 last_call key n change true =
     (call.Write key (want.Equal n) change, record { before = Some n; matched = true })
-last_call key n change false = read_of key (Some n)
+last_call key n change false = read_that_found key (Some n)
 
 -- What was found at the key at last, as a token of the store, and whether the change was done: just
 -- where the token's value is equal to the given one. Where nothing was found, nothing is done.
@@ -104,7 +105,7 @@ HasCompared eq m key value change before after (Some token) done =
     Shows m.store token × (eq token.value value ≡ done)
     × HasMadeLast key (last_call key token.index change done) before after
 HasCompared eq m key value change before after None done =
-    (done ≡ false) × HasMadeLast key (read_of key None) before after
+    (done ≡ false) × HasMadeLast key (read_that_found key None) before after
 
 -- the number of a token, if there is one
 abbrev pub number_of : {V : Type 0} → Option (Where V) → Option ℕ
@@ -113,4 +114,4 @@ number_of token = option_map (λ (token : Where _). token.index) token
 -- the last call is a read of a number that the store didn't show, and nothing was changed
 abbrev pub IsUnshown : (key : ℕ) → (before after : SeatOf) → Type 0
 IsUnshown key before after =
-    (n : ℕ) × HasMadeLast key (read_of key (Some n)) before after
+    (n : ℕ) × HasMadeLast key (read_that_found key (Some n)) before after

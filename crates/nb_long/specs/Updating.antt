@@ -16,7 +16,7 @@ use Rattle.nb_map.specs.Progress.{Tries}
 use Rattle.nb_map.specs.Promises.{Found, HasWritten, Matched, Outcome, Refused, Replied}
 use Rattle.nb_map.specs.declared.faults.PutFault.TheVariants as put_fault
 use Rattle.nb_long.specs.Promises.{HasGotValue}
-use Rattle.nb_long.specs.Typed.{HasMadeLast, LongMapOf, number_of, passed_on, read_of, round_steps}
+use Rattle.nb_long.specs.Typed.{HasMadeLast, LongMapOf, number_of, passed_on, read_that_found, round_steps}
 use Rattle.nb_long.specs.declared.map.Unshown.{Unshown}
 use Rattle.nb_long.specs.declared.map.updating.UpdateFault.TheVariants as fault
 use Rattle.nb_long.specs.declared.map.updating.UpdateFault.{UpdateFault}
@@ -108,18 +108,20 @@ IsLastTry m Step key before begun function after left (Ok updated) =
     × HasTriedOnce m Step key begun function updated.found updated.new after left
     (Replied (record { before = number_of updated.found; matched = true }))
 IsLastTry m Step key before begun function after left (Err (fault.OutOfMemory value)) =
-    (found : Option (Where _)) × HasMadeLast key (read_of key (number_of found)) before after
+    (found : Option (Where _))
+    × HasMadeLast key (read_that_found key (number_of found)) before after
     × HasBegunTry m Step key begun function found (Some value) after left
 IsLastTry m Step key before begun function after left (Err (fault.ValueRange placed)) =
-    (found : Option (Where _)) × HasMadeLast key (read_of key (number_of found)) before after
+    (found : Option (Where _))
+    × HasMadeLast key (read_that_found key (number_of found)) before after
     × HasBegunTry m Step key begun function found (Some placed.value) after left
     × Shows m.store placed × (VALUE_MAX < placed.index)
 IsLastTry m Step key before begun function after left (Err (fault.Full receipt)) =
-    HasMadeLast key (read_of key None) before after
+    HasMadeLast key (read_that_found key None) before after
     × HasTriedOnce m Step key begun function None (Some receipt) after left
     (Refused put_fault.Full)
 IsLastTry {F} {V} m Step key before begun function after left (Err fault.Unshown) =
-    (n : ℕ) × HasMadeLast key (read_of key (Some n)) before after
+    (n : ℕ) × HasMadeLast key (read_that_found key (Some n)) before after
     × ((unshown : Unshown) × HasGotValue {V = V} m key begun after (Err unshown))
 
 -- the calls that were asked for: these, and the last exchange

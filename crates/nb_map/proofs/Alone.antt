@@ -74,9 +74,6 @@ module _ (seats : List SeatOf) (ended : EndedOf) (end : EndedWith seats ended)
     (base later : List Entry) (one : SeatOf) (knows : log one ≡ later ++ base)
     (has : HasAll (log_left ended) one)
     (others : All (λ seat. (seat ≡ one) ⊎ (log seat ≡ base)) seats) where
-  whole : List Entry
-  whole = log_left ended
-
   -- each number is a seat's, which is the one or knows no more than the others
   IsSeat : SeatOf → Type 0
   IsSeat seat = HasAll (log_left ended) seat × ((seat ≡ one) ⊎ (log seat ≡ base))

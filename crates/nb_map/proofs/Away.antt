@@ -22,13 +22,13 @@ use Rattle.nb_map.specs.Promises.{Found, HasAnswered, HasWritten, Matched, Outco
 use Rattle.nb_map.specs.Refusals.{AreAllTries, HasRefused, IsJust}
 use Rattle.nb_map.specs.Steps.{put_steps}
 use Rattle.nb_map.specs.declared.faults.PutFault.{PutFault}
-use Rattle.nb_map.specs.inside.Waiting.{HasClimbed, HasGoneOn, HasLookedInVain, HasYetToWrite, IsLeft, IsStopped, general_steps}
+use Rattle.nb_map.specs.inside.Waiting.{HasClimbed, HasGoneOn, HasLookedInVain, HasYetToWrite, IsStopped, LeavesTries, general_steps}
 
 -- ---- what is left of the tries
 
 -- both ways together lose no more exchanges than the write may
 lost-within :
-    (limit left : Limit) (lost passed passed' : ℕ) → IsLeft limit lost left → lost ≤ passed
+    (limit left : Limit) (lost passed passed' : ℕ) → LeavesTries limit lost left → lost ≤ passed
     → lost + within left passed' ≤ within limit (passed + passed' + 1)
 lost-within Unlimited Unlimited lost passed passed' rest few = omega (arith, few)
 lost-within Unlimited (Tries left) lost passed passed' rest few = absurd rest
@@ -37,7 +37,7 @@ lost-within (Tries tries) (Tries left) lost passed passed' rest few = omega (ari
 
 -- and have lost all tries where the general way has lost those that were left
 lost-all :
-    (limit left : Limit) (lost passed passed' : ℕ) → IsLeft limit lost left → lost ≤ passed
+    (limit left : Limit) (lost passed passed' : ℕ) → LeavesTries limit lost left → lost ≤ passed
     → AreAllTries left passed' → AreAllTries limit (passed + passed')
 lost-all Unlimited Unlimited lost passed passed' rest few all = all
 lost-all Unlimited (Tries left) lost passed passed' rest few all = absurd rest
@@ -49,7 +49,7 @@ lost-all (Tries tries) (Tries left) lost passed passed' rest few all =
 
 module _ (chain : ChainOf) {call : Call} {before then : SeenBy} {lost : ℕ}
     (away : HasLookedInVain chain call before then lost) where
-  module _ (limit left : Limit) (rest : IsLeft limit lost left) where
+  module _ (limit left : Limit) (rest : LeavesTries limit lost left) where
     -- both ways together take no more steps than a write may
     pub made-both :
         {after : SeenBy} {calls : List (Call × Reply)}

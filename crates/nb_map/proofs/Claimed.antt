@@ -18,7 +18,7 @@ use Rattle.nb_map.proofs.Searched.{made-then}
 use Rattle.nb_map.specs.Calling.{HasMade, IsBeforeNext}
 use Rattle.nb_map.specs.inside.Reading.{read_at}
 use Rattle.nb_map.specs.Steps.{probe_steps}
-use Rattle.nb_map.specs.inside.Climbing.{GoesOn, HasBelow}
+use Rattle.nb_map.specs.inside.Climbing.{GoesAbove, HasBelow}
 use Rattle.nb_map.specs.Steps.{search_steps, grow_steps, owed_below, steps_below}
 use Rattle.nb_map.specs.declared.steps.rung.Below.{Below}
 use Rattle.nb_map.specs.declared.steps.rung.Below.TheVariants.{Complete, HasKey, Passed}
@@ -108,7 +108,7 @@ pub above-complete :
     (chain : ChainOf) (call : Call) (seat : SeenBy) → IsOwn chain seat → (g : ℕ)
     → g < generations_of chain.shape → IsComplete chain.shape (seen_by chain.shape seat) g
     → IsInstalled (seen_by chain.shape seat) (suc g)
-    → GoesOn chain.shape call seat g Complete
+    → GoesAbove chain.shape call seat g Complete
 above-complete chain call seat own g table complete next =
     let pass : IsPassed chain.shape (seen_by chain.shape seat) g (key_of_call call) =
     complete_passed chain.shape own.plan seat.seen own.legal g (key_of_call call) table complete in

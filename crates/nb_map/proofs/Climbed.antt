@@ -11,7 +11,7 @@ use Rattle.nb_map.specs.declared.steps.rung.Below.{Below}
 use Rattle.nb_map.specs.declared.steps.rung.Rung.{Rung}
 use Rattle.nb_map.specs.declared.steps.rung.Visit.{Visit}
 use Rattle.nb_map.specs.declared.steps.rung.Visit.TheVariants.{Told, Refused, Above}
-use Rattle.nb_map.specs.inside.Climbing.{GoesOn, IsAt, IsRefused, IsSpent, IsVisit, IsVisitHere, made_by}
+use Rattle.nb_map.specs.inside.Climbing.{GoesAbove, IsAt, IsRefused, IsSpent, IsVisit, IsVisitHere, made_by}
 use Rattle.nb_map.proofs.Bounds.{climbed-most}
 use Rattle.nb_map.proofs.Made.{made-none, made-within}
 use Rattle.nb_map.proofs.Rungs.{at-above, at-stays}
@@ -84,7 +84,7 @@ module _ (chain : ChainOf) {call : Call} {start now after : SeenBy} {rung : Rung
   pub climbed-above :
       (below : Below) → HasMade chain.shape call now after []
       (rung_steps chain.shape rung.g + (left - left'))
-      → GoesOn chain.shape call after rung.g below → 1 ≤ left'
+      → GoesAbove chain.shape call after rung.g below → 1 ≤ left'
       → HasClimbedTo chain call start after (record { g = rung.g + 1; from = 0; below = below })
       tries left'
   climbed-above below made on some = record {

@@ -26,7 +26,7 @@ use Rattle.nb_core.proofs.Theorems.{lawful_changes, one_slot, seat-in_range, see
 use Rattle.nb_table.specs.Chains.{Grown, SeenBy, own_events}
 use Rattle.nb_table.proofs.Theorems.{own-none}
 use Rattle.nb_map.proofs.Made.{slot-below-lasts}
-use Rattle.nb_map.specs.Calling.{HasStepped, MayMake}
+use Rattle.nb_map.specs.Calling.{HasMadeSome, MayMake}
 use Rattle.nb_map.specs.Crowding.{AsksAddUp, CrowdedByCalls, HasAskedFor, HasAskedIn, IsClaimOf, IsFilled, fills, others_filled}
 
 -- ---- keys that calls fill
@@ -340,12 +340,12 @@ module _ (p : Plan) (plan : IsPlan p) where
           ∙ ap (λ es. es ++ own_events before.number before.seen) grown.own_are
 
   -- after the steps of a call
-  asked-stepped :
+  asked-made_some :
       {call : Call} {before after : SeenBy} {most : ℕ} (cs cs' : List Call)
       → ((k : ℕ) → IsFilled cs k → IsFilled cs' k)
       → (fills call ≡ true → IsFilled cs' (key_of_call call)) → HasAskedFor p cs before
-      → HasStepped p call before after most → HasAskedFor p cs' after
-  asked-stepped {call} {before} {after} cs cs' more adds asked stepped =
+      → HasMadeSome p call before after most → HasAskedFor p cs' after
+  asked-made_some {call} {before} {after} cs cs' more adds asked stepped =
       let made = stepped.1 in
       asked-grown cs cs' more asked made.grown
       (All-weaker (MayMake p before.seen after.seen call) (IsClaimOf p (tables_at p after.seen) cs')
@@ -382,7 +382,7 @@ pub asks_add_up : AsksAddUp
 asks_add_up = record {
   none = λ {p} {calls} {seat} new. asked-new p calls seat new;
   more = λ {p} {calls} {calls'} plan more adds asked stepped.
-      asked-stepped p plan calls calls' more adds asked stepped;
+      asked-made_some p plan calls calls' more adds asked stepped;
   rested = λ {p} {calls} {before} {after} plan asked grown.
       asked-grown p plan calls calls (λ k filled. filled) asked grown
       (All-nil (IsClaimOf p (tables_at p after.seen) calls));

@@ -23,7 +23,7 @@ use Rattle.nb_map.proofs.Made.{made-more, made-none, made-within}
 use Rattle.nb_map.proofs.Opened.{caught-logs}
 use Rattle.nb_map.proofs.Rested.{made-rested}
 use Rattle.nb_map.proofs.Settled.{each-mine}
-use Rattle.nb_map.specs.Bulk.{read_as, walk_steps}
+use Rattle.nb_map.specs.Bulk.{read_as, whole_walk_steps}
 use Rattle.nb_map.specs.Ending.{HasAll}
 use Rattle.nb_map.specs.Entries.{EntriesAtRest, HasListed, HasOnlyRead, HaveListed, HaveOnlyRead, IsRead}
 use Rattle.nb_map.specs.Logs.{log}
@@ -304,7 +304,7 @@ module _ (m : MapOf) where
   }
 
   abbrev most : ℕ
-  most = walk_steps m.chain.shape
+  most = whole_walk_steps m.chain.shape
 
   abbrev HaveStayed : (before after : List SeatOf) → Type 0
   HaveStayed = AllZip (λ old new. HasOnlyRead m old new 0)

@@ -10,7 +10,7 @@ use Rattle.nb_map.proofs.Made.{made-within}
 use Rattle.nb_map.proofs.Swept.{HasSweptTo, come-walked, counted-reads, far-reads, swept-missed, swept-read}
 use Rattle.nb_map.proofs.Walked.{held-since}
 use Rattle.nb_map.proofs.WholeWalk.{whole_walk}
-use Rattle.nb_map.specs.Bulk.{Begun, HasSwept, Kept, Missed, Unwanted, read_as, walk_steps}
+use Rattle.nb_map.specs.Bulk.{Begun, HasSwept, Kept, Missed, Unwanted, read_as, whole_walk_steps}
 use Rattle.nb_map.specs.Maps.{IsMine, MapOf, SeatOf}
 use Rattle.nb_map.specs.Promises.{HasWalkedOn}
 use Rattle.nb_map.specs.Entries.{HasListed, HasOnlyRead, IsRead}
@@ -47,7 +47,7 @@ module _ {m : MapOf} {before : SeatOf} (mine : IsMine m before) where
   pub list-read :
       {now : SeatOf} {walk : WalkOf} {entries : List (ℕ × ℕ)}
       → HasSweptTo m before Lists [] now walk entries
-      → HasOnlyRead m before now (walk_steps m.chain.shape)
+      → HasOnlyRead m before now (whole_walk_steps m.chain.shape)
   list-read {now} {walk} sweep =
       let reads = lists-reads sweep.swept in
       let same = sweep.come.count ∙ counted-reads sweep.calls before.count reads in
@@ -68,7 +68,7 @@ module _ {m : MapOf} {before : SeatOf} (mine : IsMine m before) where
       {now after : SeatOf} {walk walk' : WalkOf} {entries : List (ℕ × ℕ)}
       → HasSweptTo m before Lists [] now walk entries
       → HasWalkedOn m now after walk walk' None
-      → HasListed before after entries × HasOnlyRead m before after (walk_steps m.chain.shape)
+      → HasListed before after entries × HasOnlyRead m before after (whole_walk_steps m.chain.shape)
   list-all {after = after} {walk' = walk'} {entries} sweep on =
       let come = come-walked mine None sweep.come on in
       let swept = swept-missed on.read.misses on.read.missed sweep.swept in

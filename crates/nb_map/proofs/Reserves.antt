@@ -3,26 +3,26 @@ use Rattle.std.proofs.Common.{◌≡◌, ◌≢◌, ◌∙◌, ℕ, suc, ◌+◌
 use Rattle.std.proofs.lemmas.List.{append_assoc, drop-map, length-drop, length-map, map-append, nil_from_length, take-append-drop, take-map}
 use Rattle.nb_core.proofs.Seating.{AreMoved, all-moved, moved-more}
 use Rattle.nb_map.specs.Maps.{SeatOf}
-use Rattle.nb_map.specs.inside.Reserves.{held}
+use Rattle.nb_map.specs.inside.Reserves.{seats_in}
 
 -- full nodes hold their seats
-pub held-full : (seats : List SeatOf) → held (map Some seats) ≡ seats
-held-full [] = refl
-held-full (seat ∷ seats) = ap (λ rest. seat ∷ rest) (held-full seats)
+pub seats_in-full : (seats : List SeatOf) → seats_in (map Some seats) ≡ seats
+seats_in-full [] = refl
+seats_in-full (seat ∷ seats) = ap (λ rest. seat ∷ rest) (seats_in-full seats)
 
 module _ (nodes : List (Option SeatOf)) (seats : List SeatOf) (are : nodes ≡ None ∷ map Some seats) where
   -- with an empty one in front they are a reserve of these seats
-  pub reserve-of : held nodes ≡ seats
-  reserve-of = ap held are ∙ held-full seats
+  pub reserve-of : seats_in nodes ≡ seats
+  reserve-of = ap seats_in are ∙ seats_in-full seats
 
-  pub is-reserve : nodes ≡ None ∷ map Some (held nodes)
+  pub is-reserve : nodes ≡ None ∷ map Some (seats_in nodes)
   is-reserve = are ∙ ap (λ xs. None ∷ map Some xs) (sym reserve-of)
 
 -- nodes hold what their parts hold
-held-append : (xs ys : List (Option SeatOf)) → held (xs ++ ys) ≡ held xs ++ held ys
-held-append [] ys = refl
-held-append (None ∷ xs) ys = held-append xs ys
-held-append (Some seat ∷ xs) ys = ap (λ rest. seat ∷ rest) (held-append xs ys)
+seats_in-append : (xs ys : List (Option SeatOf)) → seats_in (xs ++ ys) ≡ seats_in xs ++ seats_in ys
+seats_in-append [] ys = refl
+seats_in-append (None ∷ xs) ys = seats_in-append xs ys
+seats_in-append (Some seat ∷ xs) ys = ap (λ rest. seat ∷ rest) (seats_in-append xs ys)
 
 -- the first of full nodes isn't empty
 full-first :
@@ -32,34 +32,43 @@ full-first (seat ∷ seats) rest are = absurd cc
 
 -- ---- the last node is taken off
 
-module _ (nodes : List (Option SeatOf)) (are : nodes ≡ None ∷ map Some (held nodes)) (n : ℕ)
-    (some : n ≡ suc (n - 1)) (count : n ≡ length (held nodes)) (first : Option SeatOf)
+module _ (nodes : List (Option SeatOf)) (are : nodes ≡ None ∷ map Some (seats_in nodes)) (n : ℕ)
+    (some : n ≡ suc (n - 1)) (count : n ≡ length (seats_in nodes)) (first : Option SeatOf)
     (rest : List (Option SeatOf)) (last : drop n nodes ≡ first ∷ rest) where
   none-after : rest ≡ []
   none-after =
       nil_from_length rest
-      (omega (arith, length-drop n nodes, ap length last, ap length are, length-map (held nodes) Some, count))
+      (omega (
+        arith,
+        length-drop n nodes,
+        ap length last,
+        ap length are,
+        length-map (seats_in nodes) Some,
+        count,
+      ))
 
   -- those that are left are a reserve
-  pub left-full : take n nodes ≡ None ∷ map Some (held (take n nodes))
+  pub left-full : take n nodes ≡ None ∷ map Some (seats_in (take n nodes))
   left-full =
-      is-reserve (take n nodes) (take (n - 1) (held nodes))
-      (ap (take n) are ∙ ap (λ m. take m (None ∷ map Some (held nodes))) some
-      ∙ ap (λ xs. None ∷ xs) (take-map Some (n - 1) (held nodes)))
+      is-reserve (take n nodes) (take (n - 1) (seats_in nodes))
+      (ap (take n) are ∙ ap (λ m. take m (None ∷ map Some (seats_in nodes))) some
+      ∙ ap (λ xs. None ∷ xs) (take-map Some (n - 1) (seats_in nodes)))
 
   -- the last one has a seat
   pub last-full : first ≢ None
   last-full none =
-      full-first (drop (n - 1) (held nodes)) rest
+      full-first (drop (n - 1) (seats_in nodes)) rest
       (ap (λ x. x ∷ rest) (sym none) ∙ sym last ∙ ap (drop n) are
-      ∙ ap (λ m. drop m (None ∷ map Some (held nodes))) some
-      ∙ drop-map Some (n - 1) (held nodes))
+      ∙ ap (λ m. drop m (None ∷ map Some (seats_in nodes))) some
+      ∙ drop-map Some (n - 1) (seats_in nodes))
 
   -- and it is the last seat
-  pub last-held : (seat : SeatOf) → first ≡ Some seat → held nodes ≡ held (take n nodes) ++ seat ∷ []
-  last-held seat is =
-      ap held (sym (take-append-drop n nodes)) ∙ held-append (take n nodes) (drop n nodes)
-      ∙ ap (λ xs. held (take n nodes) ++ held xs) (last ∙ ap₂ (λ x xs. x ∷ xs) is none-after)
+  pub last-seat : (seat : SeatOf) → first ≡ Some seat
+      → seats_in nodes ≡ seats_in (take n nodes) ++ seat ∷ []
+  last-seat seat is =
+      ap seats_in (sym (take-append-drop n nodes)) ∙ seats_in-append (take n nodes) (drop n nodes)
+      ∙ ap (λ xs. seats_in (take n nodes) ++ seats_in xs)
+      (last ∙ ap₂ (λ x xs. x ∷ xs) is none-after)
 
   -- its node is a reserve of none
   pub node-empty : (node : List (Option SeatOf)) → node ≡ None ∷ rest → node ≡ None ∷ map Some []
@@ -70,14 +79,14 @@ module _ (nodes : List (Option SeatOf)) (are : nodes ≡ None ∷ map Some (held
 -- a reserve whose first node has got a seat, behind another reserve
 pub joined :
     (mine theirs theirs' : List (Option SeatOf)) (first : Option SeatOf) (seat : SeatOf)
-    → mine ≡ None ∷ map Some (held mine) → theirs ≡ None ∷ map Some (held theirs)
+    → mine ≡ None ∷ map Some (seats_in mine) → theirs ≡ None ∷ map Some (seats_in theirs)
     → (rest : List (Option SeatOf)) × (theirs ≡ first ∷ rest) × (theirs' ≡ Some seat ∷ rest)
-    → mine ++ theirs' ≡ None ∷ map Some (held mine ++ seat ∷ held theirs)
+    → mine ++ theirs' ≡ None ∷ map Some (seats_in mine ++ seat ∷ seats_in theirs)
 joined mine theirs theirs' first seat mine-are theirs-are exchanged =
-    let rest : exchanged.0 ≡ map Some (held theirs) =
+    let rest : exchanged.0 ≡ map Some (seats_in theirs) =
     ap (drop 1) (sym exchanged.1 ∙ theirs-are) in
     ap₂ (λ xs ys. xs ++ ys) mine-are (exchanged.2 ∙ ap (λ xs. Some seat ∷ xs) rest)
-    ∙ ap (λ xs. None ∷ xs) (sym (map-append Some (held mine) (seat ∷ held theirs)))
+    ∙ ap (λ xs. None ∷ xs) (sym (map-append Some (seats_in mine) (seat ∷ seats_in theirs)))
 
 -- ---- the first node comes to the end
 

@@ -14,7 +14,7 @@ use Rattle.nb_map.specs.Calling.{HasMade}
 use Rattle.nb_map.specs.declared.steps.rung.Below.{Below}
 use Rattle.nb_map.specs.declared.steps.rung.Below.TheVariants.{Complete, HasKey, Passed}
 use Rattle.nb_map.specs.declared.steps.rung.Rung.{Rung}
-use Rattle.nb_map.specs.inside.Climbing.{GoesOn, HasBelow, IsAbove, IsAt, IsAtSlot, IsSlotOf}
+use Rattle.nb_map.specs.inside.Climbing.{GoesAbove, HasBelow, IsAbove, IsAt, IsAtSlot, IsSlotOf}
 use Rattle.nb_map.proofs.Made.{made-own, made-stays, slot-below-lasts}
 use Rattle.nb_map.proofs.Searched.{others-none, reached-above, reached-lasts, table-within}
 
@@ -77,7 +77,7 @@ module _ (chain : ChainOf) where
   -- or to the next table, where it may go on there
   pub at-above :
       {call : Call} {rung : Rung} {seat : SeenBy} (below : Below) → IsAt chain call seat rung
-      → GoesOn p call seat rung.g below
+      → GoesAbove p call seat rung.g below
       → IsAt chain call seat (record { g = rung.g + 1; from = 0; below = below })
   at-above {call} {rung} {seat} below at on =
       let k = key_of_call call in

@@ -1,9 +1,8 @@
 -- The seats of a map are settled: what they know, and how they are put together again.
 use Rattle.std.proofs.Common.{◌≡◌, ◌∙◌, ℕ, ◌+◌, ◌≤◌, ◌<◌, ◌==◌, ap, sym, subst, subst₂, refl, List, [], ◌∷◌, ◌++◌, All, drop, length, map, reverse, arith}
 use Rattle.std.specs.List.{AllZip, count_by}
-use Rattle.std.proofs.lemmas.List.{length-reverse, nil_from_length, reverse-append}
 use Rattle.std.proofs.lemmas.List.Elements.{All-cons, All-head, All-map, All-nil, All-tail, All-weaker, filter_map-append}
-use Rattle.nb_core.proofs.Seating.{AreMoved, count-map, moved-back, moved-count}
+use Rattle.nb_core.proofs.Seating.{AreMoved, count-map}
 use Rattle.nb_core.proofs.Theorems.{calls_append, log_is_replayed, seen_lasts}
 use Rattle.nb_core.specs.Log.{Entry, calls_of, entry_of, log_of}
 use Rattle.nb_core.specs.Meaning.{net_of}
@@ -36,45 +35,6 @@ pub record ArePairing (chains : List SeenBy) (counts : List CountSeatOf)
     (chains' : List SeenBy) (counts' : List CountSeatOf) (seats : List SeatOf) : Type 0 where
   pub in_chain : AreMoved (λ seat. seat.chain) chains chains' (reverse seats)
   pub in_counter : AreMoved (λ seat. seat.count) counts counts' (reverse seats)
-
-module _
-    {chains : List SeenBy} {counts : List CountSeatOf} {chains' : List SeenBy}
-    {counts' : List CountSeatOf} {seats : List SeatOf}
-    (d : ArePairing chains counts chains' counts' seats) where
-  -- one seat more
-  pub pairing-more :
-      (chains'' : List SeenBy) (counts'' : List CountSeatOf) (seats' : List SeatOf)
-      (chain : SeenBy) (count : CountSeatOf)
-      → chains' ≡ chains'' ++ chain ∷ [] → counts' ≡ counts'' ++ count ∷ []
-      → seats' ≡ seats ++ record { chain = chain; count = count } ∷ []
-      → ArePairing chains counts chains'' counts'' seats'
-  pairing-more chains'' counts'' seats' chain count chains_are counts_are is =
-      let s : SeatOf = record { chain = chain; count = count } in
-      let more = sym (ap reverse is ∙ reverse-append seats (s ∷ [])) in
-      record {
-        in_chain = subst (AreMoved (λ seat. seat.chain) chains chains'') more
-            (moved-back d.in_chain chains_are);
-        in_counter = subst (AreMoved (λ seat. seat.count) counts counts'') more
-            (moved-back d.in_counter counts_are);
-      }
-
-  pub pairing-count : (length chains' + length seats ≡ length chains)
-      × (length counts' + length seats ≡ length counts)
-  pairing-count = (
-    omega (arith, moved-count d.in_chain, length-reverse seats),
-    omega (arith, moved-count d.in_counter, length-reverse seats),
-  )
-
-  -- where none is left, all are put together
-  pub pairing-done : chains' ≡ [] → length chains ≡ length counts
-      → IsParted (reverse seats) chains counts
-  pairing-done none same =
-      let none' = nil_from_length counts' (omega (arith, pairing-count, ap length none, same)) in
-      record {
-        of_chain = d.in_chain.is ∙ ap (λ cs. cs ++ map (λ seat. seat.chain) (reverse seats)) none;
-        of_counter = d.in_counter.is
-            ∙ ap (λ cs. cs ++ map (λ seat. seat.count) (reverse seats)) none';
-      }
 
 -- ---- what is known
 

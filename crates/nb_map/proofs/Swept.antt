@@ -20,8 +20,8 @@ use Rattle.nb_core.specs.declared.events.Event.{Event}
 use Rattle.nb_core.specs.declared.events.Event.TheVariants.{Claim, Install}
 use Rattle.nb_count.specs.Counts.{CountSeatOf}
 use Rattle.nb_table.specs.Chains.{Grown, SeenBy}
-use Rattle.nb_map.specs.Bulk.{Begun, HasSwept, HasSweptAll, Kept, Missed, Unwanted, counted_after, has_changed, read_as, removal_steps, walk_steps}
-use Rattle.nb_map.specs.Calling.{HasMade, HasStepped, MayMake}
+use Rattle.nb_map.specs.Bulk.{Begun, HasSwept, HasSweptAll, Kept, Missed, Unwanted, counted_after, has_changed, read_as, removal_steps, whole_walk_steps}
+use Rattle.nb_map.specs.Calling.{HasMade, HasMadeSome, MayMake}
 use Rattle.nb_map.specs.Logs.{HasLogged, log}
 use Rattle.nb_map.specs.Maps.{IsMine, MapOf, SeatOf, accounted}
 use Rattle.nb_map.specs.NamedCalls.{remove_if_of}
@@ -148,13 +148,13 @@ made-unfilled {p} {call} {before} {after} key never made = record {
     may e made = tt
 
 -- steps of some calls after others
-stepped-more :
+made_some-more :
     {m : MapOf} {call : Call} {before : SeatOf} (mid after : SeatOf) {most most' : ℕ} (all : ℕ)
     → IsMine m before → most + most' ≤ all
-    → HasStepped m.chain.shape call before.chain mid.chain most
-    → HasStepped m.chain.shape call mid.chain after.chain most'
-    → HasStepped m.chain.shape call before.chain after.chain all
-stepped-more {m} mid after all mine fits a b =
+    → HasMadeSome m.chain.shape call before.chain mid.chain most
+    → HasMadeSome m.chain.shape call mid.chain after.chain most'
+    → HasMadeSome m.chain.shape call before.chain after.chain all
+made_some-more {m} mid after all mine fits a b =
     (b.0 ++ a.0, made-within _ all fits (made-more m.chain mine.chain a.1 b.1))
 
 -- the bound of removals grows with what the seat sees
@@ -262,7 +262,7 @@ module _ (m : MapOf) (before : SeatOf) where
     pub underway : IsUnderway m now walk shown
     pub logged : HasLogged before now calls
     pub steps : (key : ℕ)
-        → HasStepped p (Get key) before.chain now.chain (far_steps now walk.place calls)
+        → HasMadeSome p (Get key) before.chain now.chain (far_steps now walk.place calls)
     pub count : now.count ≡ counted_after calls before.count
 
   -- and the function was called at each of them
@@ -314,7 +314,8 @@ module _ {m : MapOf} {before : SeatOf} (mine : IsMine m before) where
             (sym on.walked.begun) come.begun;
         underway = on.underway shown come.underway;
         logged = logged-then come.logged on.read.logged;
-        steps = λ key. stepped-more now after _ mine (fits reads) (come.steps key) (on.worked key).steps;
+        steps = λ key. made_some-more now after _ mine (fits reads) (come.steps key)
+            (on.worked key).steps;
         count = same ∙ come.count
             ∙ ap₂ (λ net changed. record before.count {
               added = before.count.added +ℤ net;
@@ -323,12 +324,6 @@ module _ {m : MapOf} {before : SeatOf} (mine : IsMine m before) where
             }) (sym (reads-net _ calls reads)) (sym (reads-changed _ calls reads));
       }
     where
-      slots : ℕ
-      slots = slots_below m.chain.shape (generations_of m.chain.shape)
-
-      each : ℕ
-      each = slots_below m.chain.shape (generations_of m.chain.shape) + get_steps m.chain.shape + 4
-
       way : (all from to c : ℕ) → to ≤ from → from ≤ all
           → (all - from) * c + (from - to) * c ≤ (all - to) * c
       way all from to c down within =
@@ -369,7 +364,7 @@ module _ {m : MapOf} {before : SeatOf} (mine : IsMine m before) where
         begun = come.begun;
         underway = Rested come.underway wrote.own later;
         logged = logged-then come.logged logged;
-        steps = λ key. stepped-more now after _ mine fits (come.steps key)
+        steps = λ key. made_some-more now after _ mine fits (come.steps key)
             (_, made-unfilled key (λ fills. absurd cc) wrote.non_blocking.steps.1);
         count = wrote.non_blocking.count ∙ ap (accounted wrote.non_blocking.net) come.count
             ∙ counted-removal k n reply (replies_fit now after (remove_if_of k n) reply logged)
@@ -533,7 +528,7 @@ counted-reads calls count reads =
 -- and take no more steps than their walk
 pub far-reads :
     (m : MapOf) (before now : SeatOf) (place : Place) (calls : List (Call × Reply))
-    → All IsRead calls → far_steps m before now place calls ≤ walk_steps m.chain.shape
+    → All IsRead calls → far_steps m before now place calls ≤ whole_walk_steps m.chain.shape
 far-reads m before now place calls reads =
     let none : sum_by (λ (made : Call × Reply). removal_steps m.chain.shape before.chain now.chain made.0)
     calls ≡ 0

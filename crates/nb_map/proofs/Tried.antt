@@ -32,7 +32,7 @@ use Rattle.nb_map.proofs.Searched.{made-then}
 use Rattle.nb_map.proofs.Spent.{no-read, passed-sum, spent-later, spent-none}
 use Rattle.nb_map.specs.Calling.{HasMade}
 use Rattle.nb_map.specs.inside.Reading.{read_of}
-use Rattle.nb_map.specs.inside.Climbing.{GoesOn, IsAbove, IsAtSlot, IsSpent, IsTried, IsWithoutTries, made_if_tried}
+use Rattle.nb_map.specs.inside.Climbing.{GoesAbove, IsAbove, IsAtSlot, IsSpent, IsTried, IsWithoutTries, made_if_tried}
 use Rattle.nb_map.specs.inside.Writing.{IsDecided}
 use Rattle.nb_map.specs.Progress.{passed_since}
 use Rattle.nb_map.specs.declared.steps.rung.Below.TheVariants.{HasKey}
@@ -390,7 +390,7 @@ module _ (chain : ChainOf) where
       → HasMade p call now after [] pass
       → ((k : ℕ) → (seen_by p now).key slot.g slot.i ≡ Claimed k
       → IsAbove p (seen_by p after) slot.g k)
-      → GoesOn p call after slot.g HasKey
+      → GoesAbove p call after slot.g HasKey
   tried-above {call = call} {slot = slot} at tried made above =
       let here = slot-stays chain at tried in
       let still = slot-stays chain here made in (

@@ -13,7 +13,7 @@ use Rattle.nb_core.specs.declared.calls.Call.{Call}
 use Rattle.nb_core.specs.declared.calls.Reply.{Reply}
 use Rattle.nb_count.specs.Counts.{CountSeatOf}
 use Rattle.nb_table.specs.Chains.{SeenBy}
-use Rattle.nb_map.specs.Calling.{HasStepped}
+use Rattle.nb_map.specs.Calling.{HasMadeSome}
 use Rattle.nb_map.specs.Maps.{MapOf, SeatOf, IsMine}
 use Rattle.nb_map.specs.NamedCalls.{put_of, remove_if_of}
 use Rattle.nb_map.specs.Progress.{Unlimited, passed_since}
@@ -65,8 +65,8 @@ KeepsNone f k n keep g = keep ≡ false
 
 -- the most steps of a whole walk, with T slots in all tables and B the bound of a read: a load of
 -- the top word, and T (T + B + 4)
-abbrev pub walk_steps : Plan → ℕ
-walk_steps p =
+abbrev pub whole_walk_steps : Plan → ℕ
+whole_walk_steps p =
     let slots = slots_below p (generations_of p) in 1 + slots * (slots + get_steps p + 4)
 
 -- the most steps of such a call, besides those of the walk: none of a read; and of a removal those
@@ -79,7 +79,7 @@ removal_steps p before after (Write k want change) =
 -- and of all these calls together
 abbrev pub sweep_steps : Plan → (before after : SeenBy) → List (Call × Reply) → ℕ
 sweep_steps p before after calls =
-    walk_steps p + sum_by (λ (made : Call × Reply). removal_steps p before after made.0) calls
+    whole_walk_steps p + sum_by (λ (made : Call × Reply). removal_steps p before after made.0) calls
 
 -- whether the call is a write whose condition held
 abbrev pub has_changed : Call × Reply → Bool
@@ -108,7 +108,7 @@ pub record HasSweptAll {F : Type 0} (m : MapOf) (Step : F → (k n : ℕ) → Bo
   -- all that its steps did to the tables a read may do, of any key: it installs no table, and
   -- claims a slot only for a key that has one in the table below
   pub steps :
-      (key : ℕ) → HasStepped m.chain.shape (Get key) before.chain after.chain
+      (key : ℕ) → HasMadeSome m.chain.shape (Get key) before.chain after.chain
       (sweep_steps m.chain.shape before.chain after.chain all.made)
   -- on the counter it made one step for each key that it took out
   pub count : after.count ≡ counted_after all.made before.count

@@ -58,6 +58,6 @@ pub record HasMade (p : Plan) (call : Call) (before after : SeenBy) (made : List
   pub few : count ≤ most
 
 -- the same, whichever calls the steps made
-abbrev pub HasStepped : Plan → Call → (before after : SeenBy) → (most : ℕ) → Type 0
-HasStepped p call before after most =
+abbrev pub HasMadeSome : Plan → Call → (before after : SeenBy) → (most : ℕ) → Type 0
+HasMadeSome p call before after most =
     (made : List (Call × Reply)) × HasMade p call before after made most

@@ -12,7 +12,7 @@ use Rattle.nb_core.specs.declared.events.Event.TheVariants.{Claim}
 use Rattle.nb_core.specs.declared.events.Event.{Event}
 use Rattle.nb_table.specs.Chains.{SeenBy, own_events, Grown}
 use Rattle.nb_table.specs.Views.{HasSeen}
-use Rattle.nb_map.specs.Calling.{HasStepped}
+use Rattle.nb_map.specs.Calling.{HasMadeSome}
 
 -- whether the call puts a number at a key that is absent
 abbrev pub fills : Call → Bool
@@ -55,7 +55,7 @@ pub record AsksAddUp : Type 0 where
       → IsPlan p
       → ((k : ℕ) → IsFilled calls k → IsFilled calls' k)
       → (fills call ≡ true → IsFilled calls' (key_of_call call)) → HasAskedFor p calls before
-      → HasStepped p call before after most → HasAskedFor p calls' after
+      → HasMadeSome p call before after most → HasAskedFor p calls' after
   pub rested :
       {p : Plan} {calls : List Call} {before after : SeenBy} {count : ℕ} → IsPlan p
       → HasAskedFor p calls before → Grown p before after [] count

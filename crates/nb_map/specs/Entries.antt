@@ -5,7 +5,7 @@ use Rattle.nb_core.specs.Log.{Entry, IsReplayed, Numbers, map_of_log}
 use Rattle.nb_core.specs.declared.calls.Call.TheVariants.{Get}
 use Rattle.nb_core.specs.declared.calls.Call.{Call}
 use Rattle.nb_core.specs.declared.calls.Reply.{Reply}
-use Rattle.nb_map.specs.Bulk.{read_as, walk_steps}
+use Rattle.nb_map.specs.Bulk.{read_as, whole_walk_steps}
 use Rattle.nb_map.specs.Ending.{EndedOf, EndedWith, map_left}
 use Rattle.nb_map.specs.Logs.{HasLogged, log}
 use Rattle.nb_map.specs.Maps.{HasWorked, IsMine, MapOf, SeatOf}
@@ -34,7 +34,7 @@ pub record HasOnlyRead (m : MapOf) (before after : SeatOf) (most : ℕ) : Type 0
 -- each of these seats has made at most the reads of a walk
 abbrev pub HaveOnlyRead : MapOf → (before after : List SeatOf) → Type 0
 HaveOnlyRead m before after =
-    AllZip (λ old new. HasOnlyRead m old new (walk_steps m.chain.shape)) before after
+    AllZip (λ old new. HasOnlyRead m old new (whole_walk_steps m.chain.shape)) before after
 
 -- ---- all entries
 

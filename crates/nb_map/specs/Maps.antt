@@ -9,7 +9,7 @@ use Rattle.nb_count.specs.Counts as counts
 use Rattle.nb_count.specs.Counts.{CounterOf, CountSeatOf}
 use Rattle.nb_table.specs.Chains as chains
 use Rattle.nb_table.specs.Chains.{ChainOf, SeenBy, IsOwn}
-use Rattle.nb_map.specs.Calling.{HasStepped}
+use Rattle.nb_map.specs.Calling.{HasMadeSome}
 
 -- a map: its chain of tables, and the counter of its keys
 pub record MapOf : Type 0 where
@@ -71,6 +71,6 @@ accounted net count =
 -- counter it made no step, or one that added some number. (Which number follows from `IsMine`
 -- before and after: what a seat has counted is what its calls did to the number of keys.)
 pub record HasWorked (map : MapOf) (call : Call) (before after : SeatOf) (most : ℕ) : Type 0 where
-  pub steps : HasStepped map.chain.shape call before.chain after.chain most
+  pub steps : HasMadeSome map.chain.shape call before.chain after.chain most
   pub net : ℤ
   pub count : after.count ≡ accounted net before.count

@@ -17,7 +17,7 @@ use Rattle.nb_map.specs.Maps.{MapOf, SeatOf, new_seat, new_seats}
 use Rattle.nb_script.specs.Script.{Phase}
 use Rattle.nb_runner.specs.Text.{call_of}
 use Rattle.nb_runner.specs.Told.{all_commands, key_of_command}
-use Rattle.nb_runner.specs.Working.{AreAnswered, HasAnswered, HasMet, HaveRun, PhaseRan, commands_of}
+use Rattle.nb_runner.specs.Working.{AreAnswered, HasMetAll, HasRunCommand, HaveRun, PhaseRan, commands_of}
 use Rattle.nb_runner.specs.declared.answers.Answer.{Answer}
 use Rattle.nb_script.specs.declared.script.Command.{Command}
 
@@ -104,7 +104,7 @@ module _ (m : MapOf) (plan : IsPlan m.chain.shape) where
   pub claimed-answered :
       (cs cs' : List Command) → ((k : ℕ) → IsPut cs k → IsPut cs' k) → (c : Command)
       → (fills (call_of c) ≡ true → IsPut cs' (key_of_command c))
-      → (a : Answer) (before after : SeatOf) → HasAnswered m c a before after
+      → (a : Answer) (before after : SeatOf) → HasRunCommand m c a before after
       → HasClaimed p cs before.chain → HasClaimed p cs' after.chain
   claimed-answered cs cs' more c adds a before after is claimed =
       asks_add_up.more plan more adds claimed is.1.1
@@ -112,7 +112,7 @@ module _ (m : MapOf) (plan : IsPlan m.chain.shape) where
   -- the seats met
   pub claimed-met :
       (cs : List Command) (seats : List SeatOf) (before after : SeatOf)
-      → HasMet m seats before after → HasClaimed p cs before.chain
+      → HasMetAll m seats before after → HasClaimed p cs before.chain
       → HasClaimed p cs after.chain
   claimed-met cs seats before after met claimed = asks_add_up.rested plan claimed met.grown
 
@@ -154,7 +154,7 @@ module _ (m : MapOf) (plan : IsPlan m.chain.shape) where
     claimed-phase phase w _ _ _ among ran all = absurd ran
 
     -- every two seats met
-    claimed-meeting : (seats before after : List SeatOf) → AllZip (HasMet m seats) before after
+    claimed-meeting : (seats before after : List SeatOf) → AllZip (HasMetAll m seats) before after
         → All Claimed before → All Claimed after
     claimed-meeting seats [] [] met all = All-nil Claimed
     claimed-meeting seats [] (t ∷ after) met all = absurd met

@@ -21,7 +21,7 @@ use Rattle.std.proofs.lemmas.List.{map-append}
 use Rattle.nb_script.specs.Script.{Phase}
 use Rattle.nb_runner.specs.Text.{call_of}
 use Rattle.nb_runner.specs.Told.{MayCrowd, all_commands, key_of_command}
-use Rattle.nb_runner.specs.Working.{AreAnswered, HasAnswered, HasMet, HaveMet, HaveRun, PhaseRan, commands_of}
+use Rattle.nb_runner.specs.Working.{AreAnswered, HasMetAll, HasRunCommand, HaveMet, HaveRun, PhaseRan, commands_of}
 use Rattle.nb_runner.specs.declared.answers.Answer.{Answer}
 use Rattle.nb_runner.specs.declared.answers.Answer.TheVariants as answer
 use Rattle.nb_script.specs.declared.script.Command.{Command}
@@ -176,7 +176,7 @@ module _ (m : MapOf) (plan : IsPlan m.chain.shape) where
   -- after one command more
   pub lone-answered :
       (done : List Command) (c : Command) (a : Answer) (before after : SeatOf)
-      → HasAnswered m c a before after → IsLone p done before.chain
+      → HasRunCommand m c a before after → IsLone p done before.chain
       → IsLone p (done ++ c ∷ []) after.chain
   lone-answered done c a before after is lone = record {
     claimed =
@@ -189,7 +189,7 @@ module _ (m : MapOf) (plan : IsPlan m.chain.shape) where
   -- and after a meeting
   pub lone-met :
       (done : List Command) (seats : List SeatOf) (before after : SeatOf)
-      → HasMet m seats before after → IsLone p done before.chain
+      → HasMetAll m seats before after → IsLone p done before.chain
       → IsLone p done after.chain
   lone-met done seats before after met lone = record {
     claimed = claimed-met m plan done seats before after met lone.claimed;
@@ -200,7 +200,7 @@ module _ (m : MapOf) (plan : IsPlan m.chain.shape) where
     -- Where the seat finds the map full, the commands before may have filled it.
     pub lone-full :
         (done : List Command) (c : Command) (before after : SeatOf)
-        → HasAnswered m c answer.Full before after → IsLone p done before.chain
+        → HasRunCommand m c answer.Full before after → IsLone p done before.chain
         → MayCrowd p done c
     lone-full done c before after is lone = (
       ap not is.0.just.0,
@@ -252,7 +252,7 @@ module _ (m : MapOf) (plan : IsPlan m.chain.shape) where
           subst (λ xs. IsLone p xs after.chain) (append_assoc done (c ∷ []) cs) rest.0,
           (
             λ full. lone-full done c before is.0
-                (subst (λ b. HasAnswered m c b before is.0) full is.1) lone,
+                (subst (λ b. HasRunCommand m c b before is.0) full is.1) lone,
             rest.1,
           ),
         )

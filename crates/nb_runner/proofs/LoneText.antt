@@ -27,7 +27,7 @@ use Rattle.nb_map.specs.Maps.{MapOf, SeatOf, new_seat, new_seats}
 use Rattle.nb_script.specs.Script.{Bytes, Phase}
 use Rattle.nb_runner.specs.Text.{answer_line, answer_of, call_of, ending, map_behind, map_after_command, shown, text_from}
 use Rattle.nb_runner.specs.Told.{IsLoneText, MayCrowd, all_commands, key_of_command, phase_text}
-use Rattle.nb_runner.specs.Working.{AreAnswered, HasAnswered, HasMet, HasShownReply, HaveMet, HaveRun, PhaseRan, commands_of}
+use Rattle.nb_runner.specs.Working.{AreAnswered, HasMetAll, HasRunCommand, HasShownReply, HaveMet, HaveRun, PhaseRan, commands_of}
 use Rattle.nb_runner.specs.declared.answers.Answer.{Answer}
 use Rattle.nb_runner.specs.declared.answers.Answer.TheVariants as answer
 use Rattle.nb_script.specs.declared.script.Command.{Command}
@@ -355,7 +355,7 @@ module _
 
     answered-plain :
         (c : Command) (a : Answer) (before after : SeatOf) → IsFirst before
-        → HasAnswered m c a before after
+        → HasRunCommand m c a before after
         → IsFirst after × IsPlain c a (held before) (held after)
     answered-plain c answer.Nothing before after first is =
         shown-plain c answer.Nothing before after first is.1.1.1.grown.legal is.0
@@ -384,7 +384,7 @@ module _
 
     -- a meeting leaves the map
     met-plain : (seats : List SeatOf) (before after : SeatOf) → IsFirst before
-        → HasMet m seats before after → IsFirst after × (held after ≡ held before)
+        → HasMetAll m seats before after → IsFirst after × (held after ≡ held before)
     met-plain seats before after first met =
         let more = called-more before after [] first met.grown.legal met.logged in
         (more.first, refused-left before after more)

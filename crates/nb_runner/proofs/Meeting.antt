@@ -12,7 +12,7 @@ use Rattle.nb_map.specs.Maps.{IsMine, MapOf, SeatOf}
 use Rattle.nb_table.specs.Chains.{Extended}
 use Rattle.nb_table.proofs.Theorems.{steps_add_up}
 use Rattle.nb_core.specs.Log.{Entry, IsBeginning}
-use Rattle.nb_runner.specs.Working.{HasMet, HasMetAs, worker_seats}
+use Rattle.nb_runner.specs.Working.{HasMetAll, HasMetAs, worker_seats}
 use Rattle.nb_runner.specs.declared.workers.Worker.{Worker}
 use Rattle.nb_runner.proofs.CallLemmas.{IsSeenBy, beginning-logged, beginning-more}
 use Rattle.nb_runner.proofs.Together.{all-zip-push, all-zip-then}
@@ -52,7 +52,7 @@ module _ (m : MapOf) where
   -- ---- one seat
 
   -- a seat that has met none
-  pub met-none : (seat : SeatOf) → IsMine m seat → HasMet m [] seat seat
+  pub met-none : (seat : SeatOf) → IsMine m seat → HasMetAll m [] seat seat
   met-none seat mine = record {
     logged = logs_add_up.none mine;
     heard = All-nil (IsSeenBy (log seat));
@@ -63,7 +63,7 @@ module _ (m : MapOf) where
 
   -- a seat that has met one
   pub met-one : (other before after : SeatOf) → Meets m other before after
-      → HasMet m (other ∷ []) before after
+      → HasMetAll m (other ∷ []) before after
   met-one other before after meets = record {
     logged = meets.0;
     steps = 1;
@@ -74,9 +74,9 @@ module _ (m : MapOf) where
 
   -- one meeting after another
   pub met-then :
-      (seats more : List SeatOf) (before now after : SeatOf) → HasMet m seats before now
-      → HasMet m more now after
-      → HasMet m (seats ++ more) before after
+      (seats more : List SeatOf) (before now after : SeatOf) → HasMetAll m seats before now
+      → HasMetAll m more now after
+      → HasMetAll m (seats ++ more) before after
   met-then seats more before now after a b = record {
     logged = logs_add_up.more a.logged b.logged;
     steps = a.steps + b.steps;
@@ -90,9 +90,9 @@ module _ (m : MapOf) where
 
   -- of a seat that has heard more
   pub met-less :
-      (seats others : List SeatOf) (before after : SeatOf) → HasMet m others before after
+      (seats others : List SeatOf) (before after : SeatOf) → HasMetAll m others before after
       → All (IsSeenBy (log after)) seats
-      → HasMet m seats before after
+      → HasMetAll m seats before after
   met-less seats others before after met heard =
       record {
         logged = met.logged;
@@ -104,8 +104,8 @@ module _ (m : MapOf) where
       }
 
   -- a seat has met itself
-  pub met-itself : (seats : List SeatOf) (before after : SeatOf) → HasMet m seats before after
-      → HasMet m (seats ++ before ∷ []) before after
+  pub met-itself : (seats : List SeatOf) (before after : SeatOf) → HasMetAll m seats before after
+      → HasMetAll m (seats ++ before ∷ []) before after
   met-itself seats before after met = met-less (seats ++ before ∷ []) seats before after met
       (All-push (IsSeenBy (log after)) seats before met.heard (beginning-logged met.logged))
 
@@ -113,7 +113,7 @@ module _ (m : MapOf) where
 
   pub met-as :
       (seats : List SeatOf) (worker : Worker) (after : SeatOf) → IsMine m after
-      → HasMet m seats worker.seat after
+      → HasMetAll m seats worker.seat after
       → HasMetAs m seats worker (seated worker after)
   met-as seats worker after mine met = record {
     number = refl;
@@ -129,10 +129,10 @@ module _ (m : MapOf) where
       (workers now : List Worker) (i : ℕ) (worker : Worker) (s t t' u : SeatOf) → i < length workers
       → i < length now
       → worker ≡ get_or workers i worker → drop i now ≡ drop i workers → IsMine m t' → IsMine m u
-      → HasMet m (worker_seats (take i workers)) s t
+      → HasMetAll m (worker_seats (take i workers)) s t
       → AllZip (HasMetAs m (s ∷ [])) (take i workers) (take i now) → Meets m worker.seat t t'
       → Meets m t worker.seat u
-      → IsMine m t' × HasMet m (worker_seats (take (i + 1) workers)) s t'
+      → IsMine m t' × HasMetAll m (worker_seats (take (i + 1) workers)) s t'
       × AllZip (HasMetAs m (s ∷ [])) (take (i + 1) workers)
       (take (i + 1) (set now i (seated worker u)))
       × (drop (i + 1) (set now i (seated worker u)) ≡ drop (i + 1) workers)
@@ -140,7 +140,7 @@ module _ (m : MapOf) where
       let met' = met-then (worker_seats (take i workers)) (worker.seat ∷ []) s t t' met
       (met-one worker.seat t t' a) in (
         own,
-        subst (λ seats. HasMet m seats s t')
+        subst (λ seats. HasMetAll m seats s t')
             (sym (map_more (λ w. w.seat) workers i worker below
             ∙ ap (λ w. worker_seats (take i workers) ++ w.seat ∷ []) (sym at)))
             met',
@@ -175,7 +175,7 @@ module _ (m : MapOf) where
   -- the last one has met the others, which meet then
   pub all-met :
       (before between after : List Worker) (last : Worker) (t : SeatOf) → IsMine m t
-      → HasMet m (worker_seats before) last.seat t
+      → HasMetAll m (worker_seats before) last.seat t
       → AllZip (HasMetAs m (last.seat ∷ [])) before between
       → AllZip (HasMetAs m (worker_seats between)) between after
       → AllZip (HasMetAs m (worker_seats (before ++ last ∷ []))) (before ++ last ∷ [])

@@ -4,7 +4,7 @@ use Rattle.std.proofs.Math.Seq.{drop-cons}
 use Rattle.std.proofs.lemmas.List.{append-nil, drop_all}
 use Rattle.nb_map.specs.Maps.{MapOf, SeatOf}
 use Rattle.nb_script.specs.Script.{Phase}
-use Rattle.nb_runner.specs.Working.{AreAnswered, HasAnswered, commands_of}
+use Rattle.nb_runner.specs.Working.{AreAnswered, HasRunCommand, commands_of}
 use Rattle.nb_runner.specs.declared.answers.Answer.{Answer}
 use Rattle.nb_script.specs.declared.script.Command.{Command}
 
@@ -43,7 +43,7 @@ module _ (m : MapOf) (w : ℕ) (phase : Phase) where
       (i : ℕ) (task : ℕ × Command) (a : Answer) (before answers : List Answer) (first now next :
       SeatOf)
       → i < length phase → task ≡ get_or phase i task → (task.0 == w) ≡ true
-      → HasAnswered m task.1 a now next
+      → HasRunCommand m task.1 a now next
       → IsRunning m w phase i before answers first now
       → IsRunning m w phase (i + 1) before (answers ++ a ∷ []) first next
   running-more i task a before answers first now next below at own answered running = record {

@@ -17,7 +17,7 @@ use Rattle.nb_runner.specs.Outcomes.{HaveWorkers, IsOutcome, lists_in, text_of_o
 use Rattle.nb_script.specs.Script.{Phase}
 use Rattle.nb_runner.specs.Text.{ending, ending_of}
 use Rattle.nb_runner.specs.Told.{ArePhasesTold, IsLoneText, WasCrowded, all_commands, phase_text}
-use Rattle.nb_runner.specs.Working.{AreNumbered, HasRoomFor, HaveRun, HaveRunAll, all_answers, answers_of, commands_of, joined_answers, worker_seats}
+use Rattle.nb_runner.specs.Working.{AreNumbered, HasRoomForAnswers, HaveRun, HaveRunAll, all_answers, answers_of, commands_of, joined_answers, worker_seats}
 use Rattle.nb_runner.specs.declared.answers.Answer.{Answer}
 use Rattle.nb_runner.specs.declared.outcome.Outcome.{Outcome}
 use Rattle.nb_runner.specs.declared.workers.Worker.{Worker}
@@ -46,7 +46,7 @@ pub record IsReadying (phases : List Phase) (seats left : List SeatOf) (workers 
     Type 0 where
   pub seated : seats ≡ worker_seats workers ++ left
   pub numbered : AreNumbered 0 workers
-  pub room : All (HasRoomFor phases) workers
+  pub room : All (HasRoomForAnswers phases) workers
   pub fresh : All IsFresh workers
 
 -- one worker more
@@ -63,7 +63,7 @@ readying-more phases seats left left' workers w so_far is number fresh room = re
       ∙ ap (λ xs. xs ++ left) (sym (map-push workers));
   numbered = numbered-push 0 workers w so_far.numbered (omega (arith, number));
   room =
-      All-push (HasRoomFor phases) workers w so_far.room
+      All-push (HasRoomForAnswers phases) workers w so_far.room
       (omega (
         arith,
         room,

@@ -3,11 +3,10 @@ use Rattle.std.proofs.Common.{◌≡◌, ◌∙◌, [], List, Option, Result, Ok
 use Rattle.std.specs.Io.KnownBytes.{Appends}
 use Rattle.nb_core.specs.Plans.{Plan}
 use Rattle.nb_runner.specs.Outcomes.{IsOutcome, text_of_outcome}
-use Rattle.nb_runner.specs.Runs.{HasBrokenOff, HasRun, IsRunFaultOf, TellsOf}
+use Rattle.nb_runner.specs.Runs.{HasBrokenOff, HasRun, TellsOf}
 use Rattle.nb_script.specs.Inputs.{HasReadScript, IsFaultOf, IsOpen}
 use Rattle.nb_script.specs.Script.{Bytes, Fault, Phase, script_of}
 use Rattle.nb_script.specs.Streams.{AppendsSome}
-use Rattle.nb_script.specs.declared.faults.RunFault.{RunFault}
 use Rattle.nb_script.specs.declared.faults.RunFault.TheVariants as fault
 use Rattle.nb_runner.specs.declared.outcome.Outcome.{Outcome}
 use Rattle.nb_runner.proofs.ScriptLemmas.{script-workers}
@@ -36,14 +35,6 @@ module _ (p : Plan) (unread unread' written written' : Option Bytes) where
     pub has-broken : AppendsSome written written' (text_of_outcome phases o)
         → HasBrokenOff p unread unread' written written'
     has-broken some = record { text = text_of_outcome phases o; tells = tells; output = some }
-
-  -- a fault of the reading is one of the run
-  pub run-fault : (f : RunFault) → IsFaultOf p.seats unread unread' f
-      → IsRunFaultOf p unread unread' written written' f
-  run-fault fault.Read due = due
-  run-fault fault.Write due = absurd due
-  run-fault (fault.Line n cause) due = due
-  run-fault fault.OutOfMemory due = due
 
   -- a script without a fault settles none
   sound : (phases : List Phase) (script : HasReadScript p.seats unread unread' phases)

@@ -1,13 +1,13 @@
 -- Workers run a script's phases, one after another.
 use Rattle.std.proofs.Common.{◌≡◌, ◌∙◌, ℕ, suc, ◌+◌, ◌<◌, ◌≤◌, List, [], ◌∷◌, ◌++◌, length, drop, get_or, replicate, ap, sym, subst, refl, arith, vec_capacity, zero}
 use Rattle.std.proofs.lemmas.List.{append-nil, append_assoc, drop_all, drop_more, get_or-map, length-append, length-map}
-use Rattle.std.proofs.lemmas.List.Elements.{All-cons, All-head, All-nil, All-tail, length_all_zip}
+use Rattle.std.proofs.lemmas.List.Elements.{All-cons, All-nil, length_all_zip}
 use Rattle.std.specs.List.{All, AllZip, flat_map}
 use Rattle.std.specs.declared.alloc.Global.{Global}
 use Rattle.std.specs.declared.vec.Vec.{Vec}
 use Rattle.nb_map.specs.Maps.{IsMine, MapOf, SeatOf}
 use Rattle.nb_script.specs.Script.{Phase}
-use Rattle.nb_runner.specs.Working.{AreAnswered, AreNumbered, HasMet, HasMetAs, HasRoomFor, HaveRun, HaveRunAll, IsReadyFor, IsRun, PhaseRan, all_answers, answers_of, commands_of, joined_answers, phases_in, worker_seats}
+use Rattle.nb_runner.specs.Working.{AreAnswered, AreNumbered, HasMetAll, HasMetAs, HasRoomForAnswers, HaveRun, HaveRunAll, IsReadyFor, IsRun, PhaseRan, all_answers, answers_of, commands_of, joined_answers, phases_in, worker_seats}
 use Rattle.nb_runner.specs.declared.answers.Answer.{Answer}
 use Rattle.nb_script.specs.declared.script.Command.{Command}
 use Rattle.nb_runner.specs.declared.workers.Worker.{Worker}
@@ -84,7 +84,7 @@ answers-workers m [] (first ∷ answers) before after ran = absurd ran
 answers-workers m (phase ∷ phases) [] before after ran = absurd ran
 answers-workers m (phase ∷ phases) (first ∷ answers) before after (apart, next, now, met, later) =
     let many = phase-workers m phase 0 first before apart now in
-    let same = sym (length_all_zip (HasMet m apart) apart next met) ∙ many.1 in
+    let same = sym (length_all_zip (HasMetAll m apart) apart next met) ∙ many.1 in
     All-cons (λ first. length first ≡ length before) first answers many.0
     (subst (λ n. All (λ first. length first ≡ n) answers) same
     (answers-workers m phases answers next after later))
@@ -152,8 +152,9 @@ module _ (m : MapOf) (phase : Phase) where
   )
 
   -- the room that the phase takes
-  room-after : (phases : List Phase) (before after : Worker) → HasRoomFor (phase ∷ phases) before
-      → IsRun m phase before after → HasRoomFor phases after
+  room-after : (phases : List Phase) (before after : Worker)
+      → HasRoomForAnswers (phase ∷ phases) before
+      → IsRun m phase before after → HasRoomForAnswers phases after
   room-after phases before after room run =
       let ran = run.1 in
       let many = as-many-answers m (commands_of before.number phase)
@@ -173,7 +174,7 @@ module _ (m : MapOf) (phase : Phase) where
   -- they are ready for the phase
   pub ready-now :
       (phases : List Phase) (workers : List Worker) → All (λ w. IsMine m w.seat) workers
-      → All (HasRoomFor (phase ∷ phases)) workers
+      → All (HasRoomForAnswers (phase ∷ phases)) workers
       → All (IsReadyFor m phase) workers
   ready-now phases workers own room k d below =
       let worker = get_or workers k d in (
@@ -185,28 +186,6 @@ module _ (m : MapOf) (phase : Phase) where
               (flat_map (commands_of worker.number) phases),
         ),
       )
-
--- where a phase has no commands, the workers have run them
-pub idle-run :
-    (m : MapOf) (phase : Phase) (workers : List Worker) → length phase ≡ 0
-    → All (IsReadyFor m phase) workers
-    → AllZip (IsRun m phase) workers workers
-idle-run m [] [] none ready = tt
-idle-run m [] (w ∷ workers) none ready = (
-  (
-    (All-head (IsReadyFor m []) w workers ready).0,
-    record {
-      number = refl;
-      answers = [];
-      kept = sym (append-nil w.answers.items);
-      room =
-          refl;
-      answered = refl;
-    },
-  ),
-  idle-run m [] workers none (All-tail (IsReadyFor m []) w workers ready),
-)
-idle-run m (task ∷ phase) workers none ready = absurd (omega (arith, none))
 
 -- the numbers stay
 numbered-after :
@@ -234,15 +213,15 @@ met-kept m seats (w ∷ before) (v ∷ after) all =
 met-seats :
     (m : MapOf) (seats : List SeatOf) (before after : List Worker)
     → AllZip (HasMetAs m seats) before after
-    → AllZip (HasMet m seats) (worker_seats before) (worker_seats after)
+    → AllZip (HasMetAll m seats) (worker_seats before) (worker_seats after)
 met-seats m seats [] [] all = tt
 met-seats m seats [] (v ∷ after) all = absurd all
 met-seats m seats (w ∷ before) [] all = absurd all
 met-seats m seats (w ∷ before) (v ∷ after) all = (all.0.met, met-seats m seats before after all.1)
 
 room-met :
-    (m : MapOf) (seats : List SeatOf) (phases : List Phase) (w v : Worker) → HasRoomFor phases w
-    → HasMetAs m seats w v → HasRoomFor phases v
+    (m : MapOf) (seats : List SeatOf) (phases : List Phase) (w v : Worker)
+    → HasRoomForAnswers phases w → HasMetAs m seats w v → HasRoomForAnswers phases v
 room-met m seats phases w v room met =
     omega (
       arith,
@@ -302,7 +281,7 @@ pub record HaveRunSome (m : MapOf) (phases : List Phase) (i : ℕ) (first now : 
     Type 0 where
   pub own : All (λ w. IsMine m w.seat) now
   pub numbered : AreNumbered 0 now
-  pub room : All (HasRoomFor (drop i phases)) now
+  pub room : All (HasRoomForAnswers (drop i phases)) now
   pub goes_on : (last : List Worker) → HaveRunAll m (drop i phases) now last
       → HaveRunAll m phases first last
 
@@ -323,7 +302,8 @@ module _ (m : MapOf) (kept : List (Vec (ℕ × Command) Global)) where
       → HaveRunSome m (phases_in kept) i first now → All (IsReadyFor m phase.items) now
   some-ready i phase first now below at so_far =
       ready-now m phase.items (drop (i + 1) (phases_in kept)) now so_far.own
-      (subst (λ phases. All (HasRoomFor phases) now) (phases-next i phase below at) so_far.room)
+      (subst (λ phases. All (HasRoomForAnswers phases) now) (phases-next i phase below at)
+      so_far.room)
 
   pub some-more :
       (i : ℕ) (phase : Vec (ℕ × Command) Global) (first now apart next : List Worker)
@@ -343,11 +323,12 @@ module _ (m : MapOf) (kept : List (Vec (ℕ × Command) Global)) where
             (numbered-after (IsRun m phase.items) (λ w v run. run.1.number)
             0 now apart run so_far.numbered);
         room =
-            all-zip-all (HasMetAs m seats) (HasRoomFor later) (HasRoomFor later)
+            all-zip-all (HasMetAs m seats) (HasRoomForAnswers later) (HasRoomForAnswers later)
             (room-met m seats later) apart next met
-            (all-zip-all (IsRun m phase.items) (HasRoomFor (phase.items ∷ later)) (HasRoomFor later)
+            (all-zip-all (IsRun m phase.items) (HasRoomForAnswers (phase.items ∷ later))
+            (HasRoomForAnswers later)
             (room-after m phase.items later) now apart
-            run (subst (λ phases. All (HasRoomFor phases) now) is so_far.room));
+            run (subst (λ phases. All (HasRoomForAnswers phases) now) is so_far.room));
         goes_on = λ last rest.
             so_far.goes_on last
             (subst (λ phases. HaveRunAll m phases now last) (sym is)

@@ -109,14 +109,6 @@ module _ {W : Type 0} {contents : W → Option Bytes} {failed : W → Bool} wher
         ∙ so_far.all;
   }
 
-  pub all-said :
-      {a b : W} {p q rest whole : Bytes} → SaysOn contents failed a b p q rest whole
-      → rest ≡ [] → HasSaid contents failed a b p q whole (Ok tt)
-  all-said {a = a} {b = b} {p = p} {q = q} so_far none =
-      subst (λ text. HasSaid contents failed a b p q text (Ok tt))
-      (sym (append-nil so_far.text) ∙ ap (λ bytes. so_far.text ++ bytes) (sym none) ∙ so_far.all)
-      so_far.said
-
   -- the next part failed
   pub next-failed :
       {a b c : W} {p q r part rest whole : Bytes} {e : Failed} (rest' : Bytes)

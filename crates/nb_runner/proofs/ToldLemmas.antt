@@ -16,8 +16,8 @@ use Rattle.nb_map.specs.Logs.{HasLogged, log}
 use Rattle.nb_map.specs.Maps.{MapOf, SeatOf, new_seat, new_seats}
 use Rattle.nb_script.specs.Script.{Phase}
 use Rattle.nb_runner.specs.Text.{call_of}
-use Rattle.nb_runner.specs.Told.{ArePhasesTold, AreTold, HasDone, IsPhaseTold, IsTold, Refusals, WasCrowded, key_of_command}
-use Rattle.nb_runner.specs.Working.{AreAnswered, HasMet, HaveMet, HaveRun, IsAnswered, PhaseRan, commands_of}
+use Rattle.nb_runner.specs.Told.{ArePhasesTold, AreTold, HasDone, IsCommandTold, IsPhaseTold, Refusals, WasCrowded, key_of_command}
+use Rattle.nb_runner.specs.Working.{AreAnswered, HasMetAll, HaveMet, HaveRun, IsAnswered, PhaseRan, commands_of}
 use Rattle.nb_script.specs.declared.script.Command.{Command}
 use Rattle.nb_runner.specs.declared.answers.Answer.{Answer}
 use Rattle.nb_runner.specs.declared.answers.Answer.TheVariants as answer
@@ -109,7 +109,7 @@ answered-logged m c answer.Range before after h = (_, h.unmade)
 
 module _ (full : Refusals) where
   told-later : (w : ℕ) (c : Command) (a : Answer) (x y z : List Entry) → HasDone w [] x y
-      → IsTold full w c a y z → IsTold full w c a x z
+      → IsCommandTold full w c a y z → IsCommandTold full w c a x z
   told-later w c answer.Nothing x y z rested h =
       (h.0, h.1, done-then w ((call_of c, h.0) ∷ []) x y z rested h.2)
   told-later w c (answer.Value n) x y z rested h =
@@ -160,7 +160,7 @@ module _ (m : MapOf) (script : List Command) (history : List Event)
   answered-told :
       (w : ℕ) (c : Command) (a : Answer) (before after : SeatOf) → IsNumbered w before
       → IsAnswered m c a before after → HasBegun after
-      → IsTold full w c a (log before) (log after)
+      → IsCommandTold full w c a (log before) (log after)
   answered-told w c answer.Nothing before after is h seen =
       (h.0, h.1, done-of w ((call_of c, h.0) ∷ []) before after is h.2)
   answered-told w c (answer.Value n) before after is h seen =
@@ -242,7 +242,7 @@ module _ (m : MapOf) (script : List Command) (history : List Event)
       one-told :
           (w : ℕ) (mine : List Answer) (before apart joined : SeatOf) → IsQuietSince base w before
           → AreAnswered m (commands_of w phase) mine before apart → HasBegun apart
-          → IsSeenBy long.whole apart → HasMet m seats apart joined
+          → IsSeenBy long.whole apart → HasMetAll m seats apart joined
           → AreTold full w (commands_of w phase) mine base long.whole
           × IsQuietSince long.whole w joined
       one-told w mine before apart joined quiet answered begun up met = (
@@ -286,7 +286,7 @@ module _ (m : MapOf) (script : List Command) (history : List Event)
           (w : ℕ) (first : List (List Answer)) (before apart joined : List SeatOf)
           → AreQuietSince base w before
           → PhaseRan m phase w first before apart → All HasBegun apart
-          → All (IsSeenBy long.whole) apart → AllZip (HasMet m seats) apart joined
+          → All (IsSeenBy long.whole) apart → AllZip (HasMetAll m seats) apart joined
           → PhaseOver w first before joined
       phase-told w [] [] [] [] quiet ran begun up met =
           record { told = tt; quiet = tt; each = refl; count = refl }
@@ -326,7 +326,7 @@ module _ (m : MapOf) (script : List Command) (history : List Event)
   phase-begins phase w (mine ∷ others) [] apart ran seen = absurd ran
   phase-begins phase w (mine ∷ others) (s ∷ before) [] ran seen = absurd ran
 
-  met-begins : (seats apart joined : List SeatOf) → AllZip (HasMet m seats) apart joined
+  met-begins : (seats apart joined : List SeatOf) → AllZip (HasMetAll m seats) apart joined
       → All HasBegun joined → All HasBegun apart
   met-begins seats [] [] met seen = All-nil HasBegun
   met-begins seats (t ∷ apart) (u ∷ joined) met seen =

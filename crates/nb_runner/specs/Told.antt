@@ -50,12 +50,14 @@ Refusals = Command → List Entry → Type 0
 -- From one moment to the other the worker ran this command, which was answered so. A refused
 -- command made no call. One was refused for want of room only where it may be; and for its sum only
 -- where that was past the greatest number in the map of that moment.
-abbrev pub IsTold : Refusals → (w : ℕ) → Command → Answer → (before after : List Entry) → Type 0
-IsTold full w c answer.Nothing before after = IsCallShown w c answer.Nothing before after
-IsTold full w c (answer.Value n) before after = IsCallShown w c (answer.Value n) before after
-IsTold full w c (answer.Matched b) before after = IsCallShown w c (answer.Matched b) before after
-IsTold full w c answer.Full before after = full c after × HasDone w [] before after
-IsTold full w c answer.Range before after =
+abbrev pub IsCommandTold :
+    Refusals → (w : ℕ) → Command → Answer → (before after : List Entry) → Type 0
+IsCommandTold full w c answer.Nothing before after = IsCallShown w c answer.Nothing before after
+IsCommandTold full w c (answer.Value n) before after = IsCallShown w c (answer.Value n) before after
+IsCommandTold full w c (answer.Matched b) before after =
+    IsCallShown w c (answer.Matched b) before after
+IsCommandTold full w c answer.Full before after = full c after × HasDone w [] before after
+IsCommandTold full w c answer.Range before after =
     (overflows (call_of c) (map_of_log after) ≡ true) × HasDone w [] before after
 
 -- So one command after another, and nothing behind the last one.
@@ -65,7 +67,8 @@ AreTold full w [] [] before after = HasDone w [] before after
 AreTold full w [] (a ∷ answers) before after = ⊥
 AreTold full w (c ∷ cs) [] before after = ⊥
 AreTold full w (c ∷ cs) (a ∷ answers) before after =
-    (next : List Entry) × IsTold full w c a before next × AreTold full w cs answers next after
+    (next : List Entry) × IsCommandTold full w c a before next
+    × AreTold full w cs answers next after
 
 -- From one moment to the other the workers from number w on ran their commands of the phase, each
 -- in their order.

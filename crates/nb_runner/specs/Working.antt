@@ -5,7 +5,7 @@ use Rattle.std.specs.declared.vec.Vec.{Vec}
 use Rattle.std.specs.declared.alloc.Global.{Global}
 use Rattle.nb_core.specs.Log.{IsBeginning}
 use Rattle.nb_core.specs.declared.calls.Reply.{Reply}
-use Rattle.nb_map.specs.Calling.{HasStepped}
+use Rattle.nb_map.specs.Calling.{HasMadeSome}
 use Rattle.nb_map.specs.Logs.{HasLogged, HasReplied, log}
 use Rattle.nb_map.specs.Maps.{IsMine, MapOf, SeatOf}
 use Rattle.nb_map.specs.Progress.{Unlimited}
@@ -36,11 +36,11 @@ IsAnswered m c answer.Range before after =
 -- the seat's steps were such as the command's call may make
 abbrev pub HasWorkedFor : MapOf → Command → (before after : SeatOf) → Type 0
 HasWorkedFor m c before after =
-    (most : ℕ) × HasStepped m.chain.shape (call_of c) before.chain after.chain most
+    (most : ℕ) × HasMadeSome m.chain.shape (call_of c) before.chain after.chain most
 
--- it was answered so, by such steps
-abbrev pub HasAnswered : MapOf → Command → Answer → (before after : SeatOf) → Type 0
-HasAnswered m c a before after = IsAnswered m c a before after × HasWorkedFor m c before after
+-- the seat has run the command: it was answered so, by such steps
+abbrev pub HasRunCommand : MapOf → Command → Answer → (before after : SeatOf) → Type 0
+HasRunCommand m c a before after = IsAnswered m c a before after × HasWorkedFor m c before after
 
 -- one command after another was answered so
 abbrev pub AreAnswered : MapOf → List Command → List Answer → (before after : SeatOf) → Type 0
@@ -48,7 +48,7 @@ AreAnswered m [] [] before after = after ≡ before
 AreAnswered m [] (a ∷ answers) before after = ⊥
 AreAnswered m (c ∷ cs) [] before after = ⊥
 AreAnswered m (c ∷ cs) (a ∷ answers) before after =
-    (next : SeatOf) × HasAnswered m c a before next × AreAnswered m cs answers next after
+    (next : SeatOf) × HasRunCommand m c a before next × AreAnswered m cs answers next after
 
 -- a worker's commands of a phase, in their order
 abbrev pub commands_of : ℕ → Phase → List Command
@@ -64,7 +64,7 @@ PhaseRan m phase w (mine ∷ others) (s ∷ before) (t ∷ after) =
 PhaseRan m phase w _ _ _ = ⊥
 
 -- The seat has made no call since, and no event, and its log goes on from those of all these seats.
-pub record HasMet (m : MapOf) (seats : List SeatOf) (before after : SeatOf) : Type 0 where
+pub record HasMetAll (m : MapOf) (seats : List SeatOf) (before after : SeatOf) : Type 0 where
   pub logged : HasLogged before after []
   pub heard : All (λ seat. IsBeginning (log seat) (log after)) seats
   pub steps : ℕ
@@ -73,7 +73,7 @@ pub record HasMet (m : MapOf) (seats : List SeatOf) (before after : SeatOf) : Ty
 
 -- every two of the seats have met
 abbrev pub HaveMet : MapOf → (before after : List SeatOf) → Type 0
-HaveMet m before after = AllZip (HasMet m before) before after
+HaveMet m before after = AllZip (HasMetAll m before) before after
 
 -- The phases were run one after another, each with its answers, and all seats met after each.
 abbrev pub HaveRun :
@@ -118,11 +118,11 @@ pub record HasMetAs (m : MapOf) (seats : List SeatOf) (before after : Worker) : 
   pub number : after.number ≡ before.number
   pub answers : after.answers ≡ before.answers
   pub own : IsMine m after.seat
-  pub met : HasMet m seats before.seat after.seat
+  pub met : HasMetAll m seats before.seat after.seat
 
 -- a worker has room for its answers of the phases
-abbrev pub HasRoomFor : List Phase → Worker → Type 0
-HasRoomFor phases worker =
+abbrev pub HasRoomForAnswers : List Phase → Worker → Type 0
+HasRoomForAnswers phases worker =
     length worker.answers.items + length (flat_map (commands_of worker.number) phases)
     ≤ vec_capacity worker.answers
 

@@ -4,7 +4,7 @@ ghost use Rattle.std.specs.List.{flat_map};
 ghost use Rattle.nb_runner.specs.Outcomes.{IsOutcome, lists_in};
 ghost use Rattle.nb_runner.specs.Working.{
   AreNumbered,
-  HasRoomFor,
+  HasRoomForAnswers,
   answers_of,
   commands_of,
   phases_in,
@@ -48,7 +48,8 @@ fn room_for(worker: usize, phases: &[Phase]) -> Result<usize, OutOfMemory>
 fn ready(alloc: Global, phases: &[Phase], seats: Vec<Seat>) -> Result<Vec<Worker>, OutOfMemory>
     ensures seats { IfOk result (λ workers. worker_seats workers.items ≡ seats.items) }
     ensures numbered { IfOk result (λ workers. AreNumbered 0 workers.items) }
-    ensures room { IfOk result (λ workers. All (HasRoomFor (phases_in phases.now)) workers.items) }
+    ensures room { IfOk result
+        (λ workers. All (HasRoomForAnswers (phases_in phases.now)) workers.items) }
     ensures fresh { IfOk result (λ workers. All (λ worker. worker.answers.items ≡ [])
         workers.items) }
 {

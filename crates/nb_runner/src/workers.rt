@@ -5,9 +5,9 @@ ghost use Rattle.nb_map.specs.Maps.{IsMine};
 ghost use Rattle.std.specs.List.{AllZip};
 ghost use Rattle.nb_runner.specs.Working.{
   AreNumbered,
-  HasMet,
+  HasMetAll,
   HasMetAs,
-  HasRoomFor,
+  HasRoomForAnswers,
   HasRunPhase,
   HasWorkedFor,
   HaveRunAll,
@@ -177,7 +177,7 @@ fn meet_each(map: &Map, seat: &mut Seat, others: &mut [Worker])
     requires own { IsMine map.now seat.old }
     requires others { All (λ worker. IsMine map.now worker.seat) others.old }
     ensures own { IsMine map.now seat.new }
-    ensures met { HasMet map.now (worker_seats others.old) seat.old seat.new }
+    ensures met { HasMetAll map.now (worker_seats others.old) seat.old seat.new }
     ensures others { AllZip (HasMetAs map.now (seat.old ∷ [])) others.old others.new }
 {
     for other in others.iter_mut() {
@@ -212,7 +212,7 @@ pub(crate) fn run_phases<R: Threads + Wait + Sync, G: Gate + Sync>(
 ) -> Result<Vec<Worker>, OutOfMemory>
     requires own { All (λ worker. IsMine map.now worker.seat) workers.items }
     requires numbered { AreNumbered 0 workers.items }
-    requires room { All (HasRoomFor (phases_in phases.now)) workers.items }
+    requires room { All (HasRoomForAnswers (phases_in phases.now)) workers.items }
     ensures ran { IfOk result (λ ran. HaveRunAll map.now (phases_in phases.now)
         workers.items ran.items) }
 {

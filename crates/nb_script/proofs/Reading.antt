@@ -156,14 +156,6 @@ phases_some (line.Command w c ∷ lines) = onto_some (w, c) (phases_of lines)
 pub joined_nothing : (lines : List Line) → joined_phases [] [] (phases_of lines) ≡ phases_of lines
 joined_nothing lines = let p = phases_some lines in rw p.is refl
 
-pub joined_command :
-    (over : List Phase) (current : Phase) (task : ℕ × Command) (phases : List Phase)
-    → joined_phases over (current ++ task ∷ []) phases
-    ≡ joined_phases over current (onto_first task phases)
-joined_command over current task [] = refl
-joined_command over current task (p ∷ ps) =
-    ap (λ q. over ++ q ∷ ps) (append_assoc current (task ∷ []) p)
-
 pub joined_end :
     (over : List Phase) (current : Phase) (lines : List Line)
     → joined_phases (over ++ current ∷ []) [] (phases_of lines)

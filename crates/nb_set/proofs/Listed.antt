@@ -10,7 +10,7 @@ use Rattle.nb_map.specs.Opening.{map_of_entries}
 use Rattle.nb_set.specs.Ending.{EndedOf, set_left}
 use Rattle.nb_set.specs.Listing.{HaveListed}
 use Rattle.nb_set.specs.Log.{set_of_log}
-use Rattle.nb_set.specs.OfMap.{entry_of, log_as}
+use Rattle.nb_set.specs.OfMap.{log_as, pair_for}
 use Rattle.nb_set.specs.Opening.{set_of_keys}
 use Rattle.nb_set.specs.Sets.{SeatOf, log}
 use Rattle.nb_set.proofs.Dealt.{ended-with}
@@ -23,7 +23,7 @@ keys_of entries = map (λ entry. entry.0) entries
 
 any-entries :
     (q : ℕ) (entries : List (ℕ × ℕ))
-    → list_any (is_of q) (map entry_of (keys_of entries)) ≡ list_any (is_of q) entries
+    → list_any (is_of q) (map pair_for (keys_of entries)) ≡ list_any (is_of q) entries
 any-entries q [] = refl
 any-entries q (entry ∷ entries) =
     ap (λ b. eq_by_cmp nat_cmp q entry.0 || b) (any-entries q entries)

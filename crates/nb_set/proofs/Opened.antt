@@ -23,7 +23,7 @@ use Rattle.nb_map.specs.Opening as of_map
 use Rattle.nb_map.specs.Opening.{map_of_entries}
 use Rattle.nb_set.specs.Handles.{as_handle}
 use Rattle.nb_set.specs.Log.{Add, Keys, set_of_log}
-use Rattle.nb_set.specs.OfMap.{call_for, entry_of, log_as}
+use Rattle.nb_set.specs.OfMap.{call_for, log_as, pair_for}
 use Rattle.nb_set.specs.Opening.{BeginsWith, HasAskedFor, HaveBegunWith, IsTooSmallFor, set_of_keys}
 use Rattle.nb_set.specs.Sets.{SetOf, log, shape_of}
 use Rattle.nb_set.proofs.Items.{keys-are, len-is, same-keys}
@@ -50,7 +50,7 @@ abbrev pub is_of : ℕ → ℕ × ℕ → Bool
 is_of q entry = eq_by_cmp nat_cmp q entry.0
 
 pub set-has :
-    (ks : List ℕ) (q : ℕ) → contains_key (set_of_keys ks) q ≡ list_any (is_of q) (map entry_of ks)
+    (ks : List ℕ) (q : ℕ) → contains_key (set_of_keys ks) q ≡ list_any (is_of q) (map pair_for ks)
 set-has [] q = ap is_some (get-empty nat_cmp q)
 set-has (k ∷ ks) q =
     keys-put (set_of_keys ks) k tt q ∙ ap (λ b. eq_by_cmp nat_cmp q k || b) (set-has ks q)
@@ -64,10 +64,10 @@ entries-have (e ∷ es) q =
     ∙ ap (λ b. eq_by_cmp nat_cmp q e.0 || b) (entries-have es q)
 
 -- the set of keys has the keys of the map of their entries
-pub keys-as : (ks : List ℕ) → AreKeys (set_of_keys ks) (map_of_entries (map entry_of ks))
+pub keys-as : (ks : List ℕ) → AreKeys (set_of_keys ks) (map_of_entries (map pair_for ks))
 keys-as ks q =
-    set-has ks q ∙ sym (any-reverse (is_of q) (map entry_of ks))
-    ∙ sym (entries-have (reverse (map entry_of ks)) q)
+    set-has ks q ∙ sym (any-reverse (is_of q) (map pair_for ks))
+    ∙ sym (entries-have (reverse (map pair_for ks)) q)
 
 -- it has more than the last table has slots where the map has
 pub too-small :
@@ -77,10 +77,10 @@ too-small p keys m are small = omega (arith, small, len-is keys m are)
 
 -- the same, of keys and their entries
 pub too-many :
-    (p : Plan) (ks : List ℕ) (es : List (ℕ × ℕ)) → es ≡ map entry_of ks
+    (p : Plan) (ks : List ℕ) (es : List (ℕ × ℕ)) → es ≡ map pair_for ks
     → of_map.IsTooSmallFor p (map_of_entries es) → IsTooSmallFor p (set_of_keys ks)
 too-many p ks es are small =
-    too-small p (set_of_keys ks) (map_of_entries (map entry_of ks)) (keys-as ks)
+    too-small p (set_of_keys ks) (map_of_entries (map pair_for ks)) (keys-as ks)
     (subst (λ es. of_map.IsTooSmallFor p (map_of_entries es)) are small)
 
 -- ---- what its seats have claimed

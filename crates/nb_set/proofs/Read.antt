@@ -4,7 +4,7 @@ use Rattle.std.proofs.lemmas.List.{map-append}
 use Rattle.std.specs.FinMap.{FinMap, contains_key, get, get-empty, get-insert, get-remove, get_tied, insert, remove}
 use Rattle.std.specs.Ordering.{eq_by_cmp, nat_cmp}
 use Rattle.std.specs.Cmp.{Equal-is, nat_cmp_total}
-use Rattle.nb_core.specs.Log.{IsBeginning, Numbers, changed, holds_of, map_of_log, reply_at}
+use Rattle.nb_core.specs.Log.{IsBeginning, Numbers, holds_of, map_of_log}
 use Rattle.nb_core.specs.Log as map_log
 use Rattle.nb_core.specs.declared.calls.Call as map_call
 use Rattle.nb_core.specs.declared.calls.Call.TheVariants as on_map

@@ -4,7 +4,7 @@ use Rattle.std.specs.List.{All, Contains, IsDistinct}
 use Rattle.std.specs.FinMap.{get}
 use Rattle.std.proofs.lemmas.List.{get_or-map, length-map}
 use Rattle.std.proofs.lemmas.List.Elements.{All-cons, All-head, All-map, All-nil, All-tail, All-weaker}
-use Rattle.nb_core.specs.Log.{IsBeginning, map_of_log, reply_at}
+use Rattle.nb_core.specs.Log.{map_of_log, reply_at}
 use Rattle.nb_core.specs.Log as map_log
 use Rattle.nb_core.specs.declared.calls.Call as map_call
 use Rattle.nb_core.specs.declared.calls.Call.TheVariants as on_map

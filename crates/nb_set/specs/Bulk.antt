@@ -5,7 +5,7 @@
 -- call of `f` at the key `k` may answer `keep`, whether the key is to stay, and leave the function
 -- as `g`.
 use Rattle.std.specs.Prelude.{◌≡◌, ◌≤◌, ◌+◌, ℕ, Bool, true, false, List, [], ◌∷◌, ◌++◌, length, sum_by, Some, None, Result, Ok, Err}
-use Rattle.nb_map.specs.Bulk.{walk_steps}
+use Rattle.nb_map.specs.Bulk.{whole_walk_steps}
 use Rattle.nb_map.specs.Progress.{passed_since}
 use Rattle.nb_map.specs.Steps.{put_steps}
 use Rattle.nb_map.specs.declared.faults.FullAfter.{FullAfter}
@@ -69,7 +69,7 @@ removal_steps set before after (Contains k) = 0
 -- and of all these calls together, with those of a whole walk
 abbrev pub sweep_steps : SetOf → (before after : SeatOf) → List (Call × Bool) → ℕ
 sweep_steps set before after calls =
-    walk_steps (shape_of set)
+    whole_walk_steps (shape_of set)
     + sum_by (λ (made : Call × Bool). removal_steps set before after made.0) calls
 
 -- ---- what they promise

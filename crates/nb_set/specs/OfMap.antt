@@ -15,9 +15,9 @@ call_for (Add k) = on_map.Write k want.Absent (change.Put 0)
 call_for (Remove k) = on_map.Write k want.Any change.Remove
 call_for (Contains k) = on_map.Get k
 
--- the map's entry for a key of the set
-abbrev pub entry_of : ℕ → ℕ × ℕ
-entry_of k = (k, 0)
+-- the map's pair for a key of the set
+abbrev pub pair_for : ℕ → ℕ × ℕ
+pair_for k = (k, 0)
 
 -- A write that puts a number is an `add`, except where its condition kept it from an absent key:
 -- then it only asked.

@@ -2,7 +2,7 @@
 use Rattle.std.specs.List.{AllZip}
 use Rattle.std.specs.Prelude.{◌≡◌, ◌⊎◌, ℕ, Bool, List, All}
 use Rattle.nb_core.specs.Plans.{Plan}
-use Rattle.nb_map.specs.Bulk.{walk_steps}
+use Rattle.nb_map.specs.Bulk.{whole_walk_steps}
 use Rattle.nb_set.specs.Ending.{EndedOf, EndedWith, set_left}
 use Rattle.nb_set.specs.Handles.{HandleOf, IsSameSet, seats_of}
 use Rattle.nb_set.specs.Log.{Call, Contains}
@@ -45,7 +45,7 @@ pub record HasOnlyAsked (set : SetOf) (before after : SeatOf) (most : ℕ) : Typ
 -- each of these seats has only asked for keys, in at most the steps of a walk
 abbrev pub HaveOnlyAsked : SetOf → (before after : List SeatOf) → Type 0
 HaveOnlyAsked set before after =
-    AllZip (λ old new. HasOnlyAsked set old new (walk_steps (shape_of set))) before after
+    AllZip (λ old new. HasOnlyAsked set old new (whole_walk_steps (shape_of set))) before after
 
 -- The handle is as it was; or it is of its set still, and its seats have only asked for keys.
 abbrev pub IsKept : (before after : HandleOf) → Type 0

@@ -4,39 +4,22 @@
    The keys of `calls` are 256 numbers, mixed in both. In `stops` so many threads write keys that are there, and the map is made anew
    ten times meanwhile, by turns four times larger and as small as before: how long writes had to wait is the middle one of five each,
    and the longest wait of reads the middle one of the ten. */
-#include "samvolip_map.h"
+#include "measure.h"
+
 #include <pthread.h>
 #include <stdatomic.h>
 #include <stdbool.h>
-#include <stdio.h>
-#include <stdlib.h>
 #include <string.h>
-#include <time.h>
 
 enum { CALLS = 1 << 24, FEW = 256, TIMES = 10 };
-
-static double now(void)
-{
-    struct timespec at;
-    clock_gettime(CLOCK_MONOTONIC, &at);
-    return (double)at.tv_sec * 1e9 + (double)at.tv_nsec;
-}
-
-static void check(int code)
-{
-    if (code < 0) {
-        fprintf(stderr, "endless: %s\n", samvolip_map_strerror(code));
-        exit(1);
-    }
-}
 
 /* The shortest of five times of a loop over the few keys. */
 #define SHORTEST(time, call)                                                                                                         \
     for (int round = 0; round < 5; round++) {                                                                                        \
-        double begun = now();                                                                                                        \
+        double begun = now(CLOCK_MONOTONIC);                                                                                         \
         for (uint64_t i = 0; i < CALLS; i++)                                                                                         \
             call;                                                                                                                    \
-        double took = (now() - begun) / CALLS;                                                                                       \
+        double took = (now(CLOCK_MONOTONIC) - begun) / CALLS;                                                                        \
         time = round == 0 || took < time ? took : time;                                                                              \
     }
 #define BOTH(what, by_map, by_seat)                                                                                                  \
@@ -55,11 +38,11 @@ static void calls(void)
     samvolip_seat seat = SAMVOLIP_SEAT_INIT;
     uint64_t number;
     options.keys = SAMVOLIP_KEYS_MIXED;
-    check(samvolip_map_open(&options, &map));
-    check(samvolip_open(&shape, &seat));
+    made(samvolip_map_open(&options, &map));
+    made(samvolip_open(&shape, &seat));
     for (uint64_t key = 0; key < FEW; key++) {
-        check(samvolip_map_put(map, key, key, NULL));
-        check(samvolip_put(&seat, samvolip_mix(key), key, NULL));
+        made(samvolip_map_put(map, key, key, NULL));
+        made(samvolip_put(&seat, samvolip_mix(key), key, NULL));
     }
     BOTH("get", samvolip_map_get(map, i % FEW, &number), samvolip_get(&seat, samvolip_mix(i % FEW), &number));
     BOTH("put", samvolip_map_put(map, i % FEW, i, NULL), samvolip_put(&seat, samvolip_mix(i % FEW), i, NULL));
@@ -75,14 +58,8 @@ static atomic_bool is_over;
 static void *write_keys(void *first)
 {
     for (uint64_t i = (uintptr_t)first; !is_over; i++)
-        check(samvolip_map_add(shared, i * UINT64_C(0x9e3779b1) % keys, 1, NULL));
+        made(samvolip_map_add(shared, i * UINT64_C(0x9e3779b1) % keys, 1, NULL));
     return NULL;
-}
-
-static int by_size(const void *one, const void *other)
-{
-    double difference = *(const double *)one - *(const double *)other;
-    return (difference > 0) - (difference < 0);
 }
 
 static void stops(unsigned threads)
@@ -93,24 +70,24 @@ static void stops(unsigned threads)
     if (!all)
         exit(1);
     for (uint64_t key = 0; key < keys; key++)
-        check(samvolip_map_put(shared, key, 0, NULL));
+        made(samvolip_map_put(shared, key, 0, NULL));
     for (unsigned t = 0; t < threads; t++)
         if (pthread_create(&all[t], NULL, write_keys, (void *)(uintptr_t)(t * 1000)))
             exit(1);
     for (int i = 0; i < TIMES; i++) {
         nanosleep(&(struct timespec){0, 20000000}, NULL);
-        check(samvolip_map_look(shared, &before));
-        check(samvolip_map_renew(shared, i % 2 == 0 ? 4 * keys : keys));
-        check(samvolip_map_look(shared, &after));
+        made(samvolip_map_look(shared, &before));
+        made(samvolip_map_renew(shared, i % 2 == 0 ? 4 * keys : keys));
+        made(samvolip_map_look(shared, &after));
         writes[i % 2][i / 2] = (double)(after.all_stops - before.all_stops) / 1e6;
         reads[i] = (double)after.read_stop / 1e6;
     }
     is_over = true;
     for (unsigned t = 0; t < threads; t++)
         pthread_join(all[t], NULL);
-    qsort(writes[0], TIMES / 2, sizeof **writes, by_size);
-    qsort(writes[1], TIMES / 2, sizeof **writes, by_size);
-    qsort(reads, TIMES, sizeof *reads, by_size);
+    qsort(writes[0], TIMES / 2, sizeof **writes, ascending);
+    qsort(writes[1], TIMES / 2, sizeof **writes, ascending);
+    qsort(reads, TIMES, sizeof *reads, ascending);
     printf("stops %llu %u %.2f %.2f %.3f %.0f\n", (unsigned long long)keys, threads, writes[0][TIMES / 4], writes[1][TIMES / 4],
            reads[TIMES / 2], 16.0 * (double)after.slots / (double)keys);
     free(all);
@@ -127,7 +104,7 @@ int main(int count, char **words)
         return 2;
     }
     keys = strtoull(words[2], NULL, 10);
-    check(samvolip_map_open(NULL, &shared));
+    made(samvolip_map_open(NULL, &shared));
     stops((unsigned)atoi(words[3]));
     samvolip_map_free(shared);
     return 0;

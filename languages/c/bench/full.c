@@ -1,29 +1,9 @@
 /* What keys cost that share their low bits, and what a get costs in a last table that fills up.
        full [EXPONENT [ROUNDS]]      the table's size, as an exponent of two, and of how many rounds the best is told
    It prints nanoseconds of the thread's processor time. */
-#include "samvolip.h"
-
-#include <stdio.h>
-#include <stdlib.h>
-#include <time.h>
+#include "measure.h"
 
 enum { KEYS = 20000 };
-
-static double now(void)
-{
-    struct timespec time;
-    clock_gettime(CLOCK_THREAD_CPUTIME_ID, &time);
-    return (double)time.tv_sec * 1e9 + (double)time.tv_nsec;
-}
-
-static int made(int code)
-{
-    if (code < 0) {
-        fprintf(stderr, "full: %s\n", samvolip_strerror(code));
-        exit(1);
-    }
-    return code;
-}
 
 /* A put of a multiple of 65,536 in a new map, as it is or mixed. */
 static double put_all(int is_mixed)
@@ -31,10 +11,10 @@ static double put_all(int is_mixed)
     const samvolip_shape shape = samvolip_shape_for_keys(KEYS, 1);
     samvolip_seat seat = SAMVOLIP_SEAT_INIT;
     made(samvolip_open(&shape, &seat));
-    const double begun = now();
+    const double begun = now(CLOCK_THREAD_CPUTIME_ID);
     for (uint64_t i = 0; i < KEYS; i++)
         made(samvolip_put(&seat, is_mixed ? samvolip_mix(i << 16) : i << 16, i, NULL));
-    const double took = (now() - begun) / KEYS;
+    const double took = (now(CLOCK_THREAD_CPUTIME_ID) - begun) / KEYS;
     samvolip_free(&seat);
     return took;
 }
@@ -43,11 +23,11 @@ static double put_all(int is_mixed)
 static double get_all(samvolip_seat *seat, uint64_t first, uint64_t gets)
 {
     uint64_t number;
-    const double begun = now();
+    const double begun = now(CLOCK_THREAD_CPUTIME_ID);
     for (uint64_t i = 0; i < gets; i++)
         if (made(samvolip_get(seat, samvolip_mix(first + i), &number)))
             abort();
-    return (now() - begun) / (double)gets;
+    return (now(CLOCK_THREAD_CPUTIME_ID) - begun) / (double)gets;
 }
 
 static void tell(const char *what, samvolip_seat *seat, uint64_t gets, unsigned rounds)

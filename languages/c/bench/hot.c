@@ -1,12 +1,9 @@
 /* Adds at one key, which several threads make at the same time by samvolip.h.
        hot [THREADS [ADDS [ROUNDS]]]      prints the best and the middle round, in nanoseconds an add of the whole machine
    Each thread makes so many adds a round; the slowest thread's time is the round's. */
-#include "samvolip.h"
+#include "measure.h"
 
 #include <pthread.h>
-#include <stdio.h>
-#include <stdlib.h>
-#include <time.h>
 
 enum { MOST_THREADS = 64, MOST_ROUNDS = 1000 };
 
@@ -20,22 +17,15 @@ static struct worker workers[MOST_THREADS];
 static pthread_barrier_t begin;
 static unsigned long adds = 400000;
 
-static double now(void)
-{
-    struct timespec time;
-    clock_gettime(CLOCK_MONOTONIC, &time);
-    return (double)time.tv_sec * 1e9 + (double)time.tv_nsec;
-}
-
 static void *add_all(void *given)
 {
     struct worker *worker = given;
     pthread_barrier_wait(&begin);
-    double begun = now();
+    double begun = now(CLOCK_MONOTONIC);
     for (unsigned long i = 0; i < adds; i++)
         if (samvolip_add(&worker->seat, 7, 1, NULL) < 0)
             abort();
-    worker->took = now() - begun;
+    worker->took = now(CLOCK_MONOTONIC) - begun;
     return NULL;
 }
 
@@ -65,12 +55,6 @@ static double round_of(unsigned threads)
         samvolip_free(&workers[i].seat);
     pthread_barrier_destroy(&begin);
     return slowest;
-}
-
-static int ascending(const void *a, const void *b)
-{
-    double x = *(const double *)a, y = *(const double *)b;
-    return (x > y) - (x < y);
 }
 
 int main(int count, char **words)

@@ -2,22 +2,11 @@
    each of 65,536 keys, in an order that looks random, in a table of 2^17 slots where each is at home. Rounds go by on a new map each.
        kinds [ROUNDS]      prints a line for each kind: its name, and the best and the middle round, in nanoseconds a call
    A nanosecond is one of the thread's processor time. The functions aren't inlined, so that a simulator tells them apart. */
-#include "samvolip.h"
-
-#include <stdio.h>
-#include <stdlib.h>
-#include <time.h>
+#include "measure.h"
 
 #define KEYS 65536u
 #define KINDS 6
 #define APART __attribute__((noinline))
-
-static double now(void)
-{
-    struct timespec time;
-    clock_gettime(CLOCK_THREAD_CPUTIME_ID, &time);
-    return (double)time.tv_sec * 1e9 + (double)time.tv_nsec;
-}
 
 /* The i-th key: all of them, in an order that looks random. */
 static uint64_t key_at(uint32_t i)
@@ -45,12 +34,6 @@ OVER_ALL(add_all, samvolip_add(seat, key, 1, &found))
 OVER_ALL(remove_all, samvolip_remove(seat, key, &found))
 OVER_ALL(get_none, samvolip_get(seat, key, &found))
 
-static int ascending(const void *a, const void *b)
-{
-    double x = *(const double *)a, y = *(const double *)b;
-    return (x > y) - (x < y);
-}
-
 int main(int count, char **words)
 {
     static const char *const names[KINDS] = {"put-new", "put", "get", "add", "remove", "get-none"};
@@ -67,9 +50,9 @@ int main(int count, char **words)
         if (samvolip_open(&shape, &seat) < 0)
             return 4;
         for (int kind = 0; kind < KINDS; kind++) {
-            double begun = now();
+            double begun = now(CLOCK_THREAD_CPUTIME_ID);
             int sum = kinds[kind](&seat);
-            times[kind][round] = (now() - begun) / KEYS;
+            times[kind][round] = (now(CLOCK_THREAD_CPUTIME_ID) - begun) / KEYS;
             if (sum != sums[kind])
                 return 2;
         }

@@ -2,38 +2,13 @@
        large [EXPONENT [ROUNDS]]      the table's size, as an exponent of two, and how often it is made
    It prints the best and the middle of what passed in making and freeing, in microseconds; the most memory that the process had, in
    MiB, a map in it; and of calls nanoseconds of the thread's processor time. */
-#include "samvolip.h"
+#include "measure.h"
 
-#include <stdio.h>
-#include <stdlib.h>
 #include <sys/resource.h>
-#include <time.h>
-
-static double now(clockid_t clock)
-{
-    struct timespec time;
-    clock_gettime(clock, &time);
-    return (double)time.tv_sec * 1e9 + (double)time.tv_nsec;
-}
-
-static int made(int code)
-{
-    if (code < 0) {
-        fprintf(stderr, "large: %s\n", samvolip_strerror(code));
-        exit(1);
-    }
-    return code;
-}
-
-static int compare(const void *one, const void *other)
-{
-    const double first = *(const double *)one, second = *(const double *)other;
-    return (first > second) - (first < second);
-}
 
 static void tell(const char *what, double *times, unsigned rounds)
 {
-    qsort(times, rounds, sizeof *times, compare);
+    qsort(times, rounds, sizeof *times, ascending);
     printf("%s: %.1f (%.1f)\n", what, times[0] / 1e3, times[rounds / 2] / 1e3);
 }
 

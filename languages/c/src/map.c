@@ -76,7 +76,7 @@ struct samvolip_map {
     objects objects; /* of objects.c, where it comes first */
     _Alignas(128) atomic_ullong gate; /* this line is what each call reads */
     uint64_t id;                      /* no other map of the process has it, not even later */
-    bool mixes;
+    uint64_t mixes_below;             /* which keys are mixed: all, or none */
     mixing mixing;
     _Alignas(128) pthread_mutex_t lock;
     pthread_cond_t turned; /* the gate, the work or who is alone has changed */
@@ -177,7 +177,7 @@ static uint64_t unmix(const mixing *by, uint64_t key)
 /* The key that stands in the core for this one, unless it is no key: two numbers are none. */
 static inline uint64_t mixed_once(const samvolip_map *map, uint64_t key)
 {
-    return map->mixes && LIKELY(key <= SAMVOLIP_KEY_MAX) ? mix(&map->mixing, key) : key;
+    return LIKELY(key < map->mixes_below) ? mix(&map->mixing, key) : key;
 }
 
 /* The key that stands in the core for this one. One that is mixed to a number that is no key is mixed again. */
@@ -191,7 +191,7 @@ static uint64_t inner_key(const samvolip_map *map, uint64_t key)
 
 static uint64_t outer_key(const samvolip_map *map, uint64_t key)
 {
-    if (map->mixes)
+    if (map->mixes_below > 0)
         do
             key = unmix(&map->mixing, key);
         while (key > SAMVOLIP_KEY_MAX);
@@ -1137,7 +1137,7 @@ static samvolip_map *new_map(const samvolip_map_options *options)
     map->owners = owners;
     map->count = count;
     map->options = *options;
-    map->mixes = options->keys != SAMVOLIP_KEYS_AS_THEY_ARE;
+    map->mixes_below = options->keys != SAMVOLIP_KEYS_AS_THEY_ARE ? SAMVOLIP_KEY_MAX + 1 : 0;
     map->mixing = new_mixing(options->keys, map);
     pthread_mutex_init(&map->lock, NULL);
     pthread_cond_init(&map->turned, NULL);

@@ -202,6 +202,7 @@ static void keeps_addresses(void)
 /* ---- functions that free ------------------------------------------------------------------- */
 
 static samvolip_map *called;
+static int depth;
 
 /* Each of them puts, retires, pins and collects in its turn. */
 static void free_and_call(void *pointer)
@@ -214,11 +215,16 @@ static void free_and_call(void *pointer)
     EXPECT(samvolip_map_collect(called) == SAMVOLIP_OK);
 }
 
+/* Each of them retires the next one, and collects; but they don't lie in one another. */
 static void free_and_retire(void *pointer)
 {
     uint64_t key = ((object *)pointer)->key;
+    EXPECT(++depth == 1);
     free_object(pointer);
-    EXPECT(samvolip_map_retire(called, new_object(key), free_object) == SAMVOLIP_OK);
+    if (key > 0)
+        EXPECT(samvolip_map_retire(called, new_object(key - 1), free_and_retire) == SAMVOLIP_OK);
+    EXPECT(samvolip_map_collect(called) == SAMVOLIP_OK);
+    depth--;
 }
 
 static void functions_call_the_map(void)
@@ -232,8 +238,9 @@ static void functions_call_the_map(void)
     samvolip_object_figures figures = figures_of(called);
     EXPECT(figures.waiting == 0 && figures.retired == 1900);
     for (uint64_t i = 0; i < 200; i++)
-        EXPECT(samvolip_map_retire(called, new_object(i), free_and_retire) == SAMVOLIP_OK);
-    end(called);
+        EXPECT(samvolip_map_retire(called, new_object(i % 5), free_and_retire) == SAMVOLIP_OK);
+    samvolip_map_collect(called);
+    end(called); /* with those that they have retired */
 }
 
 /* ---- threads ------------------------------------------------------------------------------- */
@@ -443,6 +450,20 @@ static void handlers(void)
     end(handled);
 }
 
+/* In a child its own pin stands alone. */
+static void go_on_in_child(samvolip_map *map, const object *mine)
+{
+    samvolip_map_collect(map);
+    EXPECT(mine->check == ~UINT64_C(2)); /* the pin is older than both */
+    has(map, 2, 2);
+    samvolip_map_unpin(map);
+    samvolip_map_collect(map);
+    has(map, 2, 0);
+    put(map, 3);
+    end(map);
+    _exit(0);
+}
+
 /* A child has the pins of its thread alone, and frees what was retired. */
 static void forks(void)
 {
@@ -463,17 +484,8 @@ static void forks(void)
     has(map, 2, 2);
     pid_t child = fork();
     EXPECT(child >= 0);
-    if (child == 0) {
-        samvolip_map_collect(map);
-        EXPECT(mine->check == ~UINT64_C(2)); /* its own pin stands, and is older than both */
-        has(map, 2, 2);
-        samvolip_map_unpin(map);
-        samvolip_map_collect(map);
-        has(map, 2, 0);
-        put(map, 3);
-        end(map);
-        _exit(0);
-    }
+    if (child == 0)
+        go_on_in_child(map, mine);
     int status;
     EXPECT(waitpid(child, &status, 0) == child && WIFEXITED(status) && WEXITSTATUS(status) == 0);
     samvolip_map_unpin(map);

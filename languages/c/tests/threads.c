@@ -2,11 +2,8 @@
    kinds on few keys, and what is left is what they were told. And threads walk beside others that write, while the map grows.
    Four threads list a map by parts, at rest and while it grows.
        threads [ROUNDS]      how often each of the first four threads adds; the other tests are made again the more often */
-#include "samvolip.h"
+#include "crew.h"
 
-#include "expect.h"
-
-#include <pthread.h>
 #include <string.h>
 
 enum { THREADS = 4, KEYS = 1000, MOST_THREADS = 8, FEW_KEYS = 7, KEPT = 6 };
@@ -24,17 +21,10 @@ struct worker {
 /* Each of these threads works with a seat of its own. */
 static void all_work(struct worker *workers, unsigned count, void *(*work)(void *))
 {
-    pthread_t threads[MOST_THREADS];
-    for (unsigned i = 1; i < count; i++)
-        EXPECT(samvolip_split(&workers[0].seat, &workers[i].seat) == SAMVOLIP_OK);
-    for (unsigned i = 0; i < count; i++) {
-        workers[i].number = i;
-        EXPECT(pthread_create(&threads[i], NULL, work, &workers[i]) == 0);
-    }
     for (unsigned i = 0; i < count; i++)
-        EXPECT(pthread_join(threads[i], NULL) == 0);
-    for (unsigned i = 1; i < count; i++)
-        EXPECT(samvolip_join(&workers[0].seat, &workers[i].seat) == SAMVOLIP_OK);
+        workers[i].number = i;
+    crew_works(workers, sizeof *workers, count, work);
+    crew_joins(workers, sizeof *workers, count);
 }
 
 /* ---- adds */

@@ -2,11 +2,7 @@
    so do 64 threads, each to the same keys one after another, in a map of small tables and short paths; four threads fill a map
    whose last table has 2^22 slots, with as many keys as it is made for, and all is read back, also after the map is made anew.
        wide [ADDS [KEYS]]      how often each of the 256 threads adds, and how many keys fill the other map */
-#include "samvolip.h"
-
-#include "expect.h"
-
-#include <pthread.h>
+#include "crew.h"
 
 enum { ADDERS = 256, ADDED_KEYS = 8000, FILLERS = 4, EQUALS = 64, EQUAL_KEYS = 2000 };
 
@@ -52,18 +48,12 @@ static void many_seats(void)
     const samvolip_shape shape = {{4, 6, 8, 10, 12, 14}, 6, ADDERS, 16, 18, 64};
     struct adder *adders = calloc(ADDERS, sizeof *adders);
     samvolip_entry *entries = calloc(ADDED_KEYS, sizeof *entries);
-    pthread_t threads[ADDERS];
     EXPECT(adders != NULL && entries != NULL);
     EXPECT(pthread_barrier_init(&begun, NULL, ADDERS) == 0);
     EXPECT(samvolip_open(&shape, &adders[0].seat) == SAMVOLIP_OK);
-    for (unsigned i = 1; i < ADDERS; i++)
-        EXPECT(samvolip_split(&adders[0].seat, &adders[i].seat) == SAMVOLIP_OK);
-    for (unsigned i = 0; i < ADDERS; i++) {
-        adders[i].number = i;
-        EXPECT(pthread_create(&threads[i], NULL, add, &adders[i]) == 0);
-    }
     for (unsigned i = 0; i < ADDERS; i++)
-        EXPECT(pthread_join(threads[i], NULL) == 0);
+        adders[i].number = i;
+    crew_works(adders, sizeof *adders, ADDERS, add);
 
     /* they come together two by two, and two of those by two */
     for (unsigned step = 1; step < ADDERS; step *= 2)
@@ -83,8 +73,7 @@ static void many_seats(void)
     EXPECT(samvolip_renew(&adders[0].seat, &shape) == SAMVOLIP_OK);
     for (unsigned i = 1; i < ADDERS; i++)
         EXPECT(samvolip_split(&adders[0].seat, &adders[i].seat) == SAMVOLIP_OK);
-    for (unsigned i = 1; i < ADDERS; i++)
-        EXPECT(samvolip_join(&adders[0].seat, &adders[i].seat) == SAMVOLIP_OK);
+    crew_joins(adders, sizeof *adders, ADDERS);
     samvolip_ended ended = SAMVOLIP_ENDED_INIT;
     EXPECT(samvolip_close(&adders[0].seat, &ended) == SAMVOLIP_OK);
     uint64_t size = samvolip_ended_size(&ended), shown = 0;
@@ -118,17 +107,10 @@ static void many_seats_add_while_the_map_grows(void)
 {
     const samvolip_shape shape = {{2, 4, 6, 8, 10, 12}, 6, EQUALS, 16, 4, 64};
     samvolip_seat seats[EQUALS] = {SAMVOLIP_SEAT_INIT};
-    pthread_t threads[EQUALS];
     uint64_t number;
     EXPECT(samvolip_open(&shape, &seats[0]) == SAMVOLIP_OK);
-    for (unsigned i = 1; i < EQUALS; i++)
-        EXPECT(samvolip_split(&seats[0], &seats[i]) == SAMVOLIP_OK);
-    for (unsigned i = 0; i < EQUALS; i++)
-        EXPECT(pthread_create(&threads[i], NULL, add_to_all, &seats[i]) == 0);
-    for (unsigned i = 0; i < EQUALS; i++)
-        EXPECT(pthread_join(threads[i], NULL) == 0);
-    for (unsigned i = 1; i < EQUALS; i++)
-        EXPECT(samvolip_join(&seats[0], &seats[i]) == SAMVOLIP_OK);
+    crew_works(seats, sizeof *seats, EQUALS, add_to_all);
+    crew_joins(seats, sizeof *seats, EQUALS);
     samvolip_ended ended = SAMVOLIP_ENDED_INIT;
     EXPECT(samvolip_close(&seats[0], &ended) == SAMVOLIP_OK);
     EXPECT(samvolip_ended_size(&ended) == EQUAL_KEYS);
@@ -162,16 +144,10 @@ static void many_keys(void)
 {
     const samvolip_shape shape = samvolip_shape_for_keys(keys, FILLERS);
     struct filler fillers[FILLERS] = {{SAMVOLIP_SEAT_INIT, 0}};
-    pthread_t threads[FILLERS];
     EXPECT(samvolip_open(&shape, &fillers[0].seat) == SAMVOLIP_OK);
-    for (unsigned i = 1; i < FILLERS; i++)
-        EXPECT(samvolip_split(&fillers[0].seat, &fillers[i].seat) == SAMVOLIP_OK);
-    for (unsigned i = 0; i < FILLERS; i++) {
-        fillers[i].number = i;
-        EXPECT(pthread_create(&threads[i], NULL, fill, &fillers[i]) == 0);
-    }
     for (unsigned i = 0; i < FILLERS; i++)
-        EXPECT(pthread_join(threads[i], NULL) == 0);
+        fillers[i].number = i;
+    crew_works(fillers, sizeof *fillers, FILLERS, fill);
     samvolip_seat *seat = &fillers[0].seat;
     EXPECT(samvolip_size_estimate(seat) == keys);
     EXPECT(samvolip_generation(seat) == shape.tables - 1);
@@ -179,8 +155,7 @@ static void many_keys(void)
     for (uint64_t i = 0; i < keys; i++)
         EXPECT(samvolip_get(seat, scattered(i), &number) == SAMVOLIP_PRESENT && number == i);
     EXPECT(samvolip_get(seat, scattered(keys), &number) == SAMVOLIP_ABSENT);
-    for (unsigned i = 1; i < FILLERS; i++)
-        EXPECT(samvolip_join(seat, &fillers[i].seat) == SAMVOLIP_OK);
+    crew_joins(fillers, sizeof *fillers, FILLERS);
     EXPECT(samvolip_renew(seat, &shape) == SAMVOLIP_OK);
     EXPECT(samvolip_size_estimate(seat) == keys);
     for (uint64_t i = 0; i < keys; i++)

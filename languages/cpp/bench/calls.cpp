@@ -19,33 +19,24 @@ double now()
 }
 
 // The calls of C, with answers as C++ has them.
-struct of_c_seat {
-    samvolip_seat *seat;
+template <class Handle, int (*get_of)(Handle *, std::uint64_t, std::uint64_t *),
+          int (*add_of)(Handle *, std::uint64_t, std::uint64_t, std::uint64_t *)>
+struct of_c {
+    Handle *handle;
     samvolip::found get(std::uint64_t key)
     {
         std::uint64_t number;
-        return samvolip_get(seat, key, &number) > 0 ? samvolip::found(number) : samvolip::found();
+        return get_of(handle, key, &number) > 0 ? samvolip::found(number) : samvolip::found();
     }
     samvolip::found add(std::uint64_t key)
     {
         std::uint64_t number;
-        return samvolip_add(seat, key, 1, &number) > 0 ? samvolip::found(number) : samvolip::found();
+        return add_of(handle, key, 1, &number) > 0 ? samvolip::found(number) : samvolip::found();
     }
 };
 
-struct of_c_map {
-    samvolip_map *map;
-    samvolip::found get(std::uint64_t key)
-    {
-        std::uint64_t number;
-        return samvolip_map_get(map, key, &number) > 0 ? samvolip::found(number) : samvolip::found();
-    }
-    samvolip::found add(std::uint64_t key)
-    {
-        std::uint64_t number;
-        return samvolip_map_add(map, key, 1, &number) > 0 ? samvolip::found(number) : samvolip::found();
-    }
-};
+using of_c_seat = of_c<samvolip_seat, samvolip_get, samvolip_add>;
+using of_c_map = of_c<samvolip_map, samvolip_map_get, samvolip_map_add>;
 
 template <class Caller> struct of_cpp {
     Caller &caller;

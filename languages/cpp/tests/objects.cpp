@@ -165,26 +165,30 @@ void refusals()
     samvolip::options options;
     options.threads = 1000;
     EXPECT(object_map<counted>::open(options).error().why() == fault::options);
+}
 
+// What a function or a constructor throws goes through, and nothing is lost.
+void throws()
+{
 #ifdef __cpp_exceptions
-    // what a function or a constructor throws goes through, and nothing is lost
     struct thrown {};
-    struct throws {
-        explicit throws(bool does)
+    struct made {
+        explicit made(bool does)
         {
             if (does)
                 throw thrown();
         }
     };
     unsigned caught = 0;
-    map.put(7, std::move(mine)).value();
-    object_map<throws> others;
+    object_map<counted> map;
+    map.put(7, fresh(1)).value();
+    object_map<made> others;
     const auto attempts = {
-        +[](object_map<counted> &to, object_map<throws> &) { to.update(7, [](const counted *) -> std::unique_ptr<counted> { throw thrown(); }).value(); },
-        +[](object_map<counted> &to, object_map<throws> &) { to.erase_if(7, [](const counted &) -> bool { throw thrown(); }).value(); },
-        +[](object_map<counted> &to, object_map<throws> &) { to.erase_if([](std::uint64_t, const counted &) -> bool { throw thrown(); }).value(); },
-        +[](object_map<counted> &to, object_map<throws> &) { to.for_each([](std::uint64_t, counted &) { throw thrown(); }).value(); },
-        +[](object_map<counted> &, object_map<throws> &to) { to.try_emplace(7, true).value(); },
+        +[](object_map<counted> &to, object_map<made> &) { to.update(7, [](const counted *) -> std::unique_ptr<counted> { throw thrown(); }).value(); },
+        +[](object_map<counted> &to, object_map<made> &) { to.erase_if(7, [](const counted &) -> bool { throw thrown(); }).value(); },
+        +[](object_map<counted> &to, object_map<made> &) { to.erase_if([](std::uint64_t, const counted &) -> bool { throw thrown(); }).value(); },
+        +[](object_map<counted> &to, object_map<made> &) { to.for_each([](std::uint64_t, counted &) { throw thrown(); }).value(); },
+        +[](object_map<counted> &, object_map<made> &to) { to.try_emplace(7, true).value(); },
     };
     for (auto attempt : attempts)
         try {
@@ -337,7 +341,7 @@ void counts_through_renewals()
 int main(int count, char **words)
 {
     rounds = count > 1 ? static_cast<unsigned>(std::strtoul(words[1], nullptr, 10)) : rounds;
-    for (auto test : {puts_and_gets, emplaces, erases, exchanges, updates, refusals, walks, moves, other_objects, counts_through_renewals}) {
+    for (auto test : {puts_and_gets, emplaces, erases, exchanges, updates, refusals, throws, walks, moves, other_objects, counts_through_renewals}) {
         test();
         EXPECT(alive == 0);
     }

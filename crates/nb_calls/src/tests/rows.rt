@@ -169,7 +169,7 @@ fn tries<R: Abort>(rt: &R, handle: &mut Handle, at: Key, call: Call) -> Answer
         Call::TryPutIfAbsent(n) => found(handle.try_put_if_absent(at, number(rt, n), 1)),
         Call::TryAdd(n, tries) => found(handle.try_add(at, number(rt, n), tries)),
         Call::TryRemove => found(handle.try_remove(at, 1)),
-        Call::OneMore(tries) => found(handle.update(at, tries, one_more)),
+        Call::OneMore(tries) => found(handle.try_update(at, tries, one_more)),
         _ => compares(rt, handle, at, call),
     }
 }

@@ -24,10 +24,10 @@ fn update_beside(
     others: u64,
 ) -> (Result<Option<Num>, PutFault>, u64) {
     let mut calls = 0u64;
-    let before = a.update(at, tries, |was| {
+    let before = a.try_update(at, tries, |was| {
         calls = calls.wrapping_add(1);
         if calls <= others {
-            let _ = b.update(at, 1, one_more);
+            let _ = b.try_update(at, 1, one_more);
         }
         one_more(was)
     });

@@ -1,7 +1,7 @@
 //! Calls at a key, and looks at the whole.
 ghost use Rattle.std.specs.Prelude.{Ok};
 ghost use Rattle.nb_ffi.specs.Codes.{checked_call, checked_key, write_of};
-ghost use Rattle.nb_ffi.specs.Handles.{IsOpen, StaysOpen};
+ghost use Rattle.nb_ffi.specs.Handles.{IsOpenHandle, StaysOpen};
 ghost use Rattle.nb_ffi.specs.Promises.{HasEstimated, HasSeenTop};
 ghost use Rattle.nb_ffi.specs.Telling.{AreOfOneMap, HasMetHandle, IsGet, IsSample, IsWrite};
 
@@ -15,7 +15,7 @@ use nb_core::Num;
 /// `Map::get`.
 #[unsafe(no_mangle)]
 pub extern "C" fn samvolip_get(seat: &mut SeatHandle, key: u64, number: &mut u64) -> i32
-    requires open { IsOpen seat.old.handle }
+    requires open { IsOpenHandle seat.old.handle }
     ensures { IsGet (checked_key key) result number.old number.new
         seat.old.handle seat.new.handle }
 {
@@ -32,7 +32,7 @@ pub extern "C" fn samvolip_get(seat: &mut SeatHandle, key: u64, number: &mut u64
 
 /// What a write answers, and its code.
 fn written(seat: &mut SeatHandle, asked: WriteAsked, tries: u32, reply: &mut WriteReply) -> i32
-    requires open { IsOpen seat.old.handle }
+    requires open { IsOpenHandle seat.old.handle }
     ensures { IsWrite (Ok (write_of asked)) tries result reply.old reply.new
         seat.old.handle seat.new.handle }
 {
@@ -58,7 +58,7 @@ pub extern "C" fn samvolip_put_if_match(
     tries: u32,
     reply: &mut WriteReply,
 ) -> i32
-    requires open { IsOpen seat.old.handle }
+    requires open { IsOpenHandle seat.old.handle }
     ensures { IsWrite (checked_call key want old change number) tries result reply.old reply.new
         seat.old.handle seat.new.handle }
 {
@@ -71,7 +71,7 @@ pub extern "C" fn samvolip_put_if_match(
 /// `Map::size_estimate`.
 #[unsafe(no_mangle)]
 pub extern "C" fn samvolip_size_estimate(seat: &mut SeatHandle) -> u64
-    requires open { IsOpen seat.old.handle }
+    requires open { IsOpenHandle seat.old.handle }
     ensures { StaysOpen seat.old.handle seat.new.handle HasEstimated }
 {
     seat.lend().size_estimate()
@@ -80,7 +80,7 @@ pub extern "C" fn samvolip_size_estimate(seat: &mut SeatHandle) -> u64
 /// `Map::generation`.
 #[unsafe(no_mangle)]
 pub extern "C" fn samvolip_generation(seat: &mut SeatHandle) -> u32
-    requires open { IsOpen seat.old.handle }
+    requires open { IsOpenHandle seat.old.handle }
     ensures { StaysOpen seat.old.handle seat.new.handle (HasSeenTop result) }
 {
     seat.lend().generation()
@@ -89,8 +89,8 @@ pub extern "C" fn samvolip_generation(seat: &mut SeatHandle) -> u32
 /// `Map::meet`.
 #[unsafe(no_mangle)]
 pub extern "C" fn samvolip_meet(seat: &mut SeatHandle, other: &mut SeatHandle)
-    requires open { IsOpen seat.old.handle }
-    requires other_open { IsOpen other.old.handle }
+    requires open { IsOpenHandle seat.old.handle }
+    requires other_open { IsOpenHandle other.old.handle }
     requires one { AreOfOneMap seat.old.handle other.old.handle }
     ensures here { StaysOpen seat.old.handle seat.new.handle (HasMetHandle other.old.handle) }
     ensures there { StaysOpen other.old.handle other.new.handle (HasMetHandle seat.old.handle) }
@@ -101,7 +101,7 @@ pub extern "C" fn samvolip_meet(seat: &mut SeatHandle, other: &mut SeatHandle)
 /// `Map::occupancy`.
 #[unsafe(no_mangle)]
 pub extern "C" fn samvolip_occupancy(seat: &mut SeatHandle, found: &mut MapOccupancy)
-    requires open { IsOpen seat.old.handle }
+    requires open { IsOpenHandle seat.old.handle }
     ensures { IsSample found.new seat.old.handle seat.new.handle }
 {
     *found = occupancy_in_c(seat.lend().occupancy());

@@ -4,7 +4,7 @@ ghost use Rattle.std.specs.FinMap as map;
 ghost use Rattle.nb_map.specs.Ending.{EndedOf, map_left};
 ghost use Rattle.nb_ffi.specs.Codes.{checked_key};
 ghost use Rattle.nb_ffi.specs.Entries.{AreEntries};
-ghost use Rattle.nb_ffi.specs.Telling.{HasEnd, IsEnd, IsEndGet};
+ghost use Rattle.nb_ffi.specs.Telling.{HasEnd, HoldsEnd, IsEndGet};
 
 use crate::codes::{ABSENT, PRESENT, key_of};
 use crate::ended_handle::EndedHandle;
@@ -16,7 +16,7 @@ use std::alloc::Global;
 #[unsafe(no_mangle)]
 pub extern "C" fn samvolip_ended_size(ended: &mut EndedHandle) -> u64
     requires has { HasEnd ended.old.left }
-    ensures size { (end : EndedOf) → IsEnd end ended.old.left
+    ensures size { (end : EndedOf) → HoldsEnd end ended.old.left
         → result ≡ length (map.entries (map_left end)) }
     ensures same { ended.new ≡ ended.old }
 {
@@ -27,7 +27,7 @@ pub extern "C" fn samvolip_ended_size(ended: &mut EndedHandle) -> u64
 #[unsafe(no_mangle)]
 pub extern "C" fn samvolip_ended_get(ended: &mut EndedHandle, key: u64, number: &mut u64) -> i32
     requires has { HasEnd ended.old.left }
-    ensures told { (end : EndedOf) → IsEnd end ended.old.left
+    ensures told { (end : EndedOf) → HoldsEnd end ended.old.left
         → IsEndGet (checked_key key) result number.old number.new end }
     ensures same { ended.new ≡ ended.old }
 {
@@ -49,7 +49,7 @@ pub extern "C" fn samvolip_ended_entries(
     entries: &mut [MapEntry],
 ) -> i32
     requires has { HasEnd ended.old.left }
-    ensures told { (end : EndedOf) → IsEnd end ended.old.left
+    ensures told { (end : EndedOf) → HoldsEnd end ended.old.left
         → AreEntries result entries.old entries.new (map.entries (map_left end)) }
     ensures same { ended.new ≡ ended.old }
 {

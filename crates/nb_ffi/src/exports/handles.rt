@@ -1,7 +1,7 @@
 //! How handles come and go.
 ghost use Rattle.std.specs.Prelude.{◌≡◌, None};
-ghost use Rattle.nb_ffi.specs.Handles.{IsOpen};
-ghost use Rattle.nb_ffi.specs.Headers.{plan_asked};
+ghost use Rattle.nb_ffi.specs.Handles.{IsOpenHandle};
+ghost use Rattle.nb_ffi.specs.Headers.{checked_with_header};
 ghost use Rattle.nb_ffi.specs.Telling.{AreOfOneMap, IsClose, IsJoin, IsOpening, IsSplit};
 
 use crate::codes::{E_LOST, E_NO_SEAT, E_NOT_ALL_SEATS, E_OUT_OF_MEMORY, E_SEATS, E_VERSION, OK};
@@ -23,7 +23,8 @@ pub extern "C" fn samvolip_open_with(
     seat: &mut SeatHandle,
 ) -> i32
     requires empty { seat.old.handle ≡ None }
-    ensures { IsOpening (plan_asked header.now shape.now) result seat.old.handle seat.new.handle }
+    ensures { IsOpening (checked_with_header header.now shape.now) result seat.old.handle
+        seat.new.handle }
 {
     if !header.is_ours() {
         return E_VERSION;
@@ -48,7 +49,7 @@ pub extern "C" fn samvolip_split(
     seat: &mut SeatHandle,
     other: &mut SeatHandle,
 ) -> i32
-    requires open { IsOpen seat.old.handle }
+    requires open { IsOpenHandle seat.old.handle }
     requires empty { other.old.handle ≡ None }
     ensures { IsSplit result seat.old.handle seat.new.handle other.old.handle other.new.handle }
 {
@@ -66,8 +67,8 @@ pub extern "C" fn samvolip_split(
 /// only where they can't be counted.
 #[unsafe(no_mangle)]
 pub extern "C" fn samvolip_join(alloc: Global, seat: &mut SeatHandle, other: &mut SeatHandle) -> i32
-    requires open { IsOpen seat.old.handle }
-    requires other_open { IsOpen other.old.handle }
+    requires open { IsOpenHandle seat.old.handle }
+    requires other_open { IsOpenHandle other.old.handle }
     requires one { AreOfOneMap seat.old.handle other.old.handle }
     ensures { IsJoin result seat.old.handle seat.new.handle other.old.handle other.new.handle }
 {
@@ -87,7 +88,7 @@ pub extern "C" fn samvolip_close(
     seat: &mut SeatHandle,
     ended: &mut EndedHandle,
 ) -> i32
-    requires open { IsOpen seat.old.handle }
+    requires open { IsOpenHandle seat.old.handle }
     requires empty { ended.old.left ≡ None }
     ensures { IsClose result seat.old.handle seat.new.handle ended.old.left ended.new.left }
 {
@@ -111,7 +112,7 @@ pub extern "C" fn samvolip_close(
 /// Frees what a handle stands for. The map goes with its last handle.
 #[unsafe(no_mangle)]
 pub extern "C" fn samvolip_free_open(alloc: Global, seat: &mut SeatHandle)
-    requires open { IsOpen seat.old.handle }
+    requires open { IsOpenHandle seat.old.handle }
     ensures { seat.new.handle ≡ None }
 {
     drop(seat.take(alloc));

@@ -1,5 +1,5 @@
 //! Walks by parts, which are written into an array of the caller's.
-ghost use Rattle.nb_ffi.specs.Handles.{IsOpen};
+ghost use Rattle.nb_ffi.specs.Handles.{IsOpenHandle};
 ghost use Rattle.nb_ffi.specs.Listing.{IsBegun, IsList};
 ghost use Rattle.nb_ffi.specs.Telling.{HasWalkOfSeat};
 
@@ -12,7 +12,7 @@ use crate::seat_handle::SeatHandle;
 /// `Map::walk_from_slot`.
 #[unsafe(no_mangle)]
 pub extern "C" fn samvolip_walk_from(seat: &mut SeatHandle, slot: usize, cursor: &mut Cursor) -> i32
-    requires open { IsOpen seat.old.handle }
+    requires open { IsOpenHandle seat.old.handle }
     ensures { IsBegun slot result cursor.old cursor.new seat.old.handle seat.new.handle }
 {
     match seat.lend().walk_from_slot(slot) {
@@ -34,7 +34,7 @@ pub extern "C" fn samvolip_list(
     entries: &mut [MapEntry],
     count: &mut u64,
 ) -> i32
-    requires open { IsOpen seat.old.handle }
+    requires open { IsOpenHandle seat.old.handle }
     requires walk { HasWalkOfSeat seat.old.handle cursor.old }
     ensures { IsList end result cursor.old cursor.new count.new entries.old entries.new
         seat.old.handle seat.new.handle }

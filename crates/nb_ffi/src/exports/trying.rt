@@ -2,7 +2,7 @@
 ghost use Rattle.nb_map.specs.NamedCalls.{add_of, put_if_absent_of, put_of, remove_of};
 ghost use Rattle.nb_ffi.specs.Checking.{map_ok};
 ghost use Rattle.nb_ffi.specs.Codes.{checked_key, checked_with};
-ghost use Rattle.nb_ffi.specs.Handles.{IsOpen};
+ghost use Rattle.nb_ffi.specs.Handles.{IsOpenHandle};
 ghost use Rattle.nb_ffi.specs.Telling.{IsNamedWrite, IsTold};
 
 use crate::codes::{ABSENT, PRESENT, entry_of, fault_code, key_of};
@@ -19,7 +19,7 @@ pub extern "C" fn samvolip_try_put(
     tries: u32,
     before: &mut u64,
 ) -> i32
-    requires open { IsOpen seat.old.handle }
+    requires open { IsOpenHandle seat.old.handle }
     ensures { IsNamedWrite (checked_with put_of key number) tries result before.old before.new
         seat.old.handle seat.new.handle }
 {
@@ -38,7 +38,7 @@ pub extern "C" fn samvolip_try_put_if_absent(
     tries: u32,
     before: &mut u64,
 ) -> i32
-    requires open { IsOpen seat.old.handle }
+    requires open { IsOpenHandle seat.old.handle }
     ensures { IsNamedWrite (checked_with put_if_absent_of key number) tries result before.old before.new
         seat.old.handle seat.new.handle }
 {
@@ -57,7 +57,7 @@ pub extern "C" fn samvolip_try_add(
     tries: u32,
     before: &mut u64,
 ) -> i32
-    requires open { IsOpen seat.old.handle }
+    requires open { IsOpenHandle seat.old.handle }
     ensures { IsNamedWrite (checked_with add_of key number) tries result before.old before.new
         seat.old.handle seat.new.handle }
 {
@@ -75,7 +75,7 @@ pub extern "C" fn samvolip_try_remove(
     tries: u32,
     before: &mut u64,
 ) -> i32
-    requires open { IsOpen seat.old.handle }
+    requires open { IsOpenHandle seat.old.handle }
     ensures { IsNamedWrite (map_ok remove_of (checked_key key)) tries result before.old before.new
         seat.old.handle seat.new.handle }
 {

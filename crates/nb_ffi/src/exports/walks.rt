@@ -1,5 +1,5 @@
 //! Walks over the map's keys, each in a struct of the caller's.
-ghost use Rattle.nb_ffi.specs.Handles.{IsOpen, StaysOpen};
+ghost use Rattle.nb_ffi.specs.Handles.{IsOpenHandle, StaysOpen};
 ghost use Rattle.nb_ffi.specs.Promises.{HasBegunWalk};
 ghost use Rattle.nb_ffi.specs.Telling.{HasWalkOfSeat, IsNext};
 
@@ -10,7 +10,7 @@ use crate::seat_handle::SeatHandle;
 /// `Map::walk`.
 #[unsafe(no_mangle)]
 pub extern "C" fn samvolip_walk(seat: &mut SeatHandle, cursor: &mut Cursor)
-    requires open { IsOpen seat.old.handle }
+    requires open { IsOpenHandle seat.old.handle }
     ensures { StaysOpen seat.old.handle seat.new.handle (HasBegunWalk cursor.new) }
 {
     *cursor = Cursor::at(seat.lend().walk_from_top());
@@ -24,7 +24,7 @@ pub extern "C" fn samvolip_next(
     key: &mut u64,
     number: &mut u64,
 ) -> i32
-    requires open { IsOpen seat.old.handle }
+    requires open { IsOpenHandle seat.old.handle }
     requires walk { HasWalkOfSeat seat.old.handle cursor.old }
     ensures { IsNext result cursor.old cursor.new key.old key.new number.old number.new
         seat.old.handle seat.new.handle }

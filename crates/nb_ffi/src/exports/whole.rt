@@ -1,8 +1,8 @@
 //! What a handle with all seats does for the whole map: its exact size, its entries, a new map in its
 //! place.
-ghost use Rattle.nb_ffi.specs.Handles.{IsOpen};
-ghost use Rattle.nb_ffi.specs.Shapes.{checked_shape};
-ghost use Rattle.nb_ffi.specs.Whole.{IsListing, IsRenewing, IsSettling};
+ghost use Rattle.nb_ffi.specs.Handles.{IsOpenHandle};
+ghost use Rattle.nb_ffi.specs.Shapes.{checked_map_shape};
+ghost use Rattle.nb_ffi.specs.Whole.{IsMapListing, IsRenewing, IsSettling};
 
 use crate::codes::{E_FULL, E_NOT_ALL_SEATS, E_OUT_OF_MEMORY, E_ROOM, OK, settle_code};
 use crate::ended_map::{MapEntry, write_entries};
@@ -14,7 +14,7 @@ use std::alloc::Global;
 /// `Handle::settle`.
 #[unsafe(no_mangle)]
 pub extern "C" fn samvolip_settle(alloc: Global, seat: &mut SeatHandle, size: &mut u64) -> i32
-    requires open { IsOpen seat.old.handle }
+    requires open { IsOpenHandle seat.old.handle }
     ensures { IsSettling result size.old size.new seat.old.handle seat.new.handle }
 {
     match seat.lend().settle(alloc) {
@@ -34,8 +34,8 @@ pub extern "C" fn samvolip_entries(
     entries: &mut [MapEntry],
     count: &mut u64,
 ) -> i32
-    requires open { IsOpen seat.old.handle }
-    ensures { IsListing result count.old count.new entries.old entries.new
+    requires open { IsOpenHandle seat.old.handle }
+    ensures { IsMapListing result count.old count.new entries.old entries.new
         seat.old.handle seat.new.handle }
 {
     match seat.lend().entries(alloc) {
@@ -54,8 +54,8 @@ pub extern "C" fn samvolip_entries(
 /// `Handle::renew`.
 #[unsafe(no_mangle)]
 pub extern "C" fn samvolip_renew(alloc: Global, seat: &mut SeatHandle, shape: &MapShape) -> i32
-    requires open { IsOpen seat.old.handle }
-    ensures { IsRenewing (checked_shape shape.now) result seat.old.handle seat.new.handle }
+    requires open { IsOpenHandle seat.old.handle }
+    ensures { IsRenewing (checked_map_shape shape.now) result seat.old.handle seat.new.handle }
 {
     let shape = match shape.checked() {
         Ok(shape) => shape,

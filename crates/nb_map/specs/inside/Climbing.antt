@@ -92,8 +92,8 @@ pub record IsSpent (call : Call) (before after : SeenBy) (tries left : ℕ) : Ty
   pub read : LeavesAllAlone call → left ≡ tries
 
 -- it may go on in the next table, where it knows this of the table that it leaves
-abbrev pub GoesOn : Plan → Call → SeenBy → (g : ℕ) → Below → Type 0
-GoesOn p call seat g below =
+abbrev pub GoesAbove : Plan → Call → SeenBy → (g : ℕ) → Below → Type 0
+GoesAbove p call seat g below =
     IsAbove p (seen_by p seat) g (key_of_call call)
     × HasBelow p (seen_by p seat) (suc g) (key_of_call call) below
 
@@ -102,7 +102,7 @@ abbrev pub IsVisit :
     Plan → Call → (before after : SeenBy) → (g tries left : ℕ) → Visit → Type 0
 IsVisit p call before after g tries left (Told reply) = IsReplied call reply
 IsVisit p call before after g tries left (Refused why) = IsRefused p call before after tries why
-IsVisit p call before after g tries left (Above below) = GoesOn p call after g below × (1 ≤ left)
+IsVisit p call before after g tries left (Above below) = GoesAbove p call after g below × (1 ≤ left)
 
 -- what a call with so many tries, of which so many are left, has come to at its key's slot: it is
 -- made or refused there; or the slot is being copied, and holds the value of this word, primed or
@@ -148,7 +148,7 @@ abbrev pub IsVisitHere : Plan → Call → SeenBy → (g : ℕ) → Visit → Ty
 IsVisitHere p call seat g (Told reply) = IsForAbsent call reply
 IsVisitHere p call seat g (Refused why) =
     (why ≡ fault.Full) × IsJust p call seat seat Unlimited fault.Full
-IsVisitHere p call seat g (Above below) = GoesOn p call seat g below
+IsVisitHere p call seat g (Above below) = GoesAbove p call seat g below
 
 -- the key has this slot in table g, or the call has come to this there without one
 abbrev pub IsFound : Plan → Call → SeenBy → (g : ℕ) → Result ℕ Visit → Type 0

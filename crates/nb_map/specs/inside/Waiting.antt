@@ -79,10 +79,10 @@ pub record HasClimbed (p : Plan) (call : Call) (before after : SeenBy) (limit : 
 -- ---- on the map
 
 -- what is left of the tries, after so many lost exchanges
-abbrev pub IsLeft : (limit : Limit) → (lost : ℕ) → (left : Limit) → Type 0
-IsLeft Unlimited lost Unlimited = Unit {0}
-IsLeft (Tries tries) lost (Tries left) = left + lost ≡ tries
-IsLeft _ lost _ = ⊥
+abbrev pub LeavesTries : (limit : Limit) → (lost : ℕ) → (left : Limit) → Type 0
+LeavesTries Unlimited lost Unlimited = Unit {0}
+LeavesTries (Tries tries) lost (Tries left) = left + lost ≡ tries
+LeavesTries _ lost _ = ⊥
 
 -- The seat has looked in vain, and has counted nothing. The write has yet to be made, with what is
 -- left of its tries.
@@ -91,7 +91,7 @@ pub record HasYetToWrite (map : MapOf) (call : Call) (before after : SeatOf) (li
   pub mine : IsMine map before
   pub lost : ℕ
   pub looked : HasLookedInVain map.chain call before.chain after.chain lost
-  pub left_over : IsLeft limit lost left
+  pub left_over : LeavesTries limit lost left
   pub count : after.count ≡ before.count
   pub own : IsMine map after
 

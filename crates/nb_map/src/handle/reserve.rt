@@ -25,9 +25,9 @@ impl Model for Reserve {
 
     ghost Value = { List SeatOf };
 
-    ghost use Rattle.nb_map.specs.inside.Reserves.{IsReserve, held};
+    ghost use Rattle.nb_map.specs.inside.Reserves.{IsReserve, seats_in};
 
-    ghost view = { λ reserve. held reserve.nodes };
+    ghost view = { λ reserve. seats_in reserve.nodes };
 
     ghost invariant = { IsReserve };
 }

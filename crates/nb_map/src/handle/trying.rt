@@ -106,8 +106,8 @@ impl Handle {
         self.shared.map.get_or(&mut self.seat, key, number)
     }
 
-    /// `Map::update`.
-    pub fn update<F: FnMut(Option<Num>) -> Option<Num>>(
+    /// `Map::try_update`.
+    pub fn try_update<F: FnMut(Option<Num>) -> Option<Num>>(
         &mut self,
         key: Key,
         tries: u32,
@@ -120,6 +120,6 @@ impl Handle {
     {
         self.shared
             .map
-            .update(&mut self.seat, key, tries.max(1), new_of)
+            .try_update(&mut self.seat, key, tries.max(1), new_of)
     }
 }

@@ -28,10 +28,10 @@ impl Map {
     }
 
     /// Raises the number at a key to this one where it is less, and answers what was there; an
-    /// absent key gets this number. It is an `update`, and waits for nobody: it is refused as
-    /// `update` is, with the same bound. Where the key has this number or a greater one already,
-    /// the exchange puts what is there, so its step is a read. `fetch_max` of Rust's atomics, and
-    /// `ConcurrentMap.merge` with `Math::max`.
+    /// absent key gets this number. It is a `try_update`, and waits for nobody: it is refused as
+    /// `try_update` is, with the same bound. Where the key has this number or a greater one
+    /// already, the exchange puts what is there, so its step is a read. `fetch_max` of Rust's
+    /// atomics, and `ConcurrentMap.merge` with `Math::max`.
     pub fn fetch_max(
         &self,
         seat: &mut Seat,
@@ -45,7 +45,7 @@ impl Map {
             result }
         ensures own { IsMine self.now seat.new }
     {
-        self.update(seat, key, tries, move |was| greater(was, number))
+        self.try_update(seat, key, tries, move |was| greater(was, number))
     }
 
     /// Lowers the number at a key to this one where it is greater, and answers what was there; an
@@ -62,7 +62,7 @@ impl Map {
         ensures updated { IsUpdateBy self.now (less_of number) key seat.old seat.new tries result }
         ensures own { IsMine self.now seat.new }
     {
-        self.update(seat, key, tries, move |was| less(was, number))
+        self.try_update(seat, key, tries, move |was| less(was, number))
     }
 }
 

@@ -1,6 +1,6 @@
 //! All entries of a map at rest, by a walk of one seat.
 ghost use Rattle.std.specs.Prelude.{Err, IfOk, [], length, ◌↔◌, ◌≡◌, ◌≢◌};
-ghost use Rattle.nb_map.specs.Bulk.{walk_steps};
+ghost use Rattle.nb_map.specs.Bulk.{whole_walk_steps};
 ghost use Rattle.nb_map.specs.Entries.{HasListed, HasOnlyRead, HaveListed, HaveOnlyRead};
 ghost use Rattle.nb_map.specs.Maps.{AreMine, IsMine};
 ghost use Rattle.nb_map.specs.declared.faults.SettleFault.TheVariants as fault;
@@ -50,7 +50,8 @@ impl Map {
         requires own { IsMine self.now seat.old }
         requires empty { entries.old.items ≡ [] }
         ensures listed { IfOk result (λ done. HasListed seat.old seat.new entries.new.items) }
-        ensures read { HasOnlyRead self.now seat.old seat.new (walk_steps self.now.chain.shape) }
+        ensures read { HasOnlyRead self.now seat.old seat.new
+            (whole_walk_steps self.now.chain.shape) }
     {
         let mut walk = self.walk(seat);
         while let Some(entry) = self.next_key(seat, &mut walk) {

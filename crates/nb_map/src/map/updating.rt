@@ -27,7 +27,7 @@ impl Map {
     /// the read. `ConcurrentMap.compute`, except that it waits for nobody: it is refused as
     /// contended only where others won, since the seat's last step before it, at least as many
     /// exchanges on the key as it has tries.
-    pub fn update<F: FnMut(Option<Num>) -> Option<Num>>(
+    pub fn try_update<F: FnMut(Option<Num>) -> Option<Num>>(
         &self,
         seat: &mut Seat,
         key: Key,

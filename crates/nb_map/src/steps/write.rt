@@ -1,5 +1,5 @@
 //! Where a write begins: at its key's home slot in the table that the seat remembers.
-ghost use Rattle.std.specs.Prelude.{IfErr, IsTrue, [], false, min, suc, ◌+◌, ◌<◌, ◌≡◌, ◌≢◌, ◌≤◌};
+ghost use Rattle.std.specs.Prelude.{IfErr, IsTrue, [], false, min, suc, ◌+◌, ◌<◌, ◌≡◌, ◌≤◌};
 ghost use Rattle.nb_core.specs.Calls.{Fills};
 ghost use Rattle.nb_core.specs.History.{key_of_call};
 ghost use Rattle.nb_core.specs.Plans.{generations_of};
@@ -102,7 +102,8 @@ pub(crate) fn write_home<P: Pause>(
     let home = chain.shape().path(top, call.key()).slot(0);
     *left = 1;
     let word = chain.load_key_word_at(seat, home, Some(*call));
-    if is_free(word, call.key()) {
+    // First, whether it is the key's, as it is mostly.
+    if !word.is(call.key()) && word.is_empty() {
         if let Decision::Leave(reply) = decide(call, &None, &None) {
             return Straight::Made(reply);
         }
@@ -175,15 +176,6 @@ pub(crate) fn write_rounds<R: Wait>(
         }
     }
     unreachable!()
-}
-
-/// Whether the slot is empty. It is first asked whether it is the key's, as it is mostly.
-#[inline(always)]
-fn is_free(word: KeyWord, key: Key) -> bool
-    ensures yes { IsTrue result → word ≡ key_is.Empty }
-    ensures no { result ≡ false → word ≢ key_is.Empty }
-{
-    !word.is(key) && word.is_empty()
 }
 
 /// Whether the key has its home slot, which was seen with this key word: it had it then; or the

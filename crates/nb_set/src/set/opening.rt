@@ -1,7 +1,7 @@
 //! A set that has keys from the start.
 ghost use Rattle.std.specs.Prelude.{Err, IfOk, map, ◌≡◌};
 ghost use Rattle.nb_map.specs.declared.faults.OpenFault.TheVariants as fault;
-ghost use Rattle.nb_set.specs.OfMap.{entry_of};
+ghost use Rattle.nb_set.specs.OfMap.{pair_for};
 ghost use Rattle.nb_set.specs.Opening.{HaveBegunWith, IsTooSmallFor, set_of_keys};
 ghost use Rattle.nb_set.specs.Sets.{AreMine, IsMadeFor};
 
@@ -33,7 +33,7 @@ impl LongSet {
 
 /// The map's entries for keys of a set.
 pub(crate) fn entries_of(alloc: Global, keys: &[Key]) -> Result<Vec<(Key, Num)>, OutOfMemory>
-    ensures { IfOk result (λ entries. entries.items ≡ map entry_of keys.now) }
+    ensures { IfOk result (λ entries. entries.items ≡ map pair_for keys.now) }
 {
     let mut entries = Vec::with_capacity(alloc, keys.len())?;
     for key in keys {

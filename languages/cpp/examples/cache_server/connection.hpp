@@ -20,9 +20,10 @@ public:
     // Reads, answers and sends as much as goes without waiting, at these events of epoll. Answers
     // which events it waits for next: 0, if it is over.
     //
-    // While a client doesn't take its replies, no more of its requests are answered or read. After
-    // QUIT and after a request that can't be understood it gets its replies, and then an end; what
-    // it sends meanwhile is thrown away. Else closing would reset the connection, and lose replies.
+    // While a client leaves most_unsent of its replies, no more of its requests are answered or read.
+    // After QUIT and after a request that can't be understood it gets its replies, and then an end;
+    // what it sends meanwhile is thrown away. Else closing would reset the connection, and replies
+    // would be lost.
     std::uint32_t serve(std::uint32_t events, commands &by);
 
     // Whether it has had its time to end.

@@ -20,7 +20,7 @@ import threading
 import time
 
 SHARE = float(os.environ.get("SHARE", "1"))
-PATIENCE = 20
+PATIENCE = 60
 
 
 def many(number):
@@ -455,10 +455,10 @@ def back_pressure():
 def expiry():
     """Items expire, by the reader's clock and by the walk; a write in their place counts as a new one."""
     with Server("--sweep", 3600000) as server, server.connect() as client:
-        client.ask(request("SET", "a", "5", "PX", "200") + request("SET", "b", "5", "PX", "200") + request("SET", "c", "5", "EX", "100"), OK * 3)
+        client.ask(request("SET", "a", "5", "PX", "1000") + request("SET", "b", "5", "PX", "1000") + request("SET", "c", "5", "EX", "100"), OK * 3)
         client.ask(request("INCR", "a") + request("MGET", *"abc"), number(6) + b"*3\r\n" + text(b"6") + text(b"5") * 2)
         client.ask(request("SET", "b", "7"), OK)
-        time.sleep(0.25)
+        time.sleep(1.05)
         client.ask(request("DBSIZE") + request("MGET", *"abc") + request("DBSIZE"), number(3) + b"*3\r\n" + NONE + text(b"7") + text(b"5") + number(2))
         client.ask(request("SET", "a", "8", "PX", "1"), OK)
         time.sleep(0.01)

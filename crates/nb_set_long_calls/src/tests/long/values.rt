@@ -2,7 +2,7 @@
 ghost use Rattle.std.specs.Prelude.{IfSome, ◌≡◌};
 ghost use Rattle.boxcar.specs.Table.{Shows};
 ghost use Rattle.nb_map.specs.Maps.{AreMine, IsMine};
-ghost use Rattle.nb_long.specs.Promises.{IsKept};
+ghost use Rattle.nb_long.specs.Promises.{IsStoredOrReturned};
 
 use super::super::plain::{Sizes, key, shape};
 use super::values::Call::*;
@@ -117,7 +117,7 @@ fn ends_write<R: Wait + Abort>(
 ) -> Result<Stored<Bytes>, LongFault<Bytes>>
     requires own { IsMine map.now.map seat.old }
     ensures own { IsMine map.now.map seat.new }
-    ensures kept { IsKept map.now.store new result }
+    ensures kept { IsStoredOrReturned map.now.store new result }
 {
     match want {
         Any => map.put(rt, seat, key(rt, k), new),

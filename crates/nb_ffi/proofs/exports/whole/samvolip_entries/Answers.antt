@@ -1,6 +1,6 @@
 use Rattle.std.proofs.Common.{◌∙◌, ap, arith, refl}
 use Rattle.nb_ffi.specs.Entries.{written_over}
-use Rattle.nb_ffi.specs.Whole.IsListing.{Listed, Long}
+use Rattle.nb_ffi.specs.Whole.IsMapListing.{Listed, Long}
 use Rattle.nb_ffi.proofs.Whole.{whole-unless}
 use Rattle.nb_ffi.proofs.exports.whole.samvolip_entries.Goals as goal
 

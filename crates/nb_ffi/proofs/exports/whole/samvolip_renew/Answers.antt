@@ -1,4 +1,4 @@
-use Rattle.std.proofs.Common.{◌≡◌, ◌∙◌, Err, Some, ap, refl, sym}
+use Rattle.std.proofs.Common.{◌∙◌, Err, Some, ap, refl, sym}
 use Rattle.std.proofs.lemmas.List.Elements.{All-cons}
 use Rattle.nb_map.specs.Maps.{IsMine}
 use Rattle.nb_ffi.specs.Whole.IsRenewing.{Full, Kept, Lacks, Renewed}

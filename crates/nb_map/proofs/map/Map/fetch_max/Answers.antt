@@ -10,4 +10,4 @@ returns-clause-updated c =
     (λ f was new g same step.
     let computed : new ≡ greater_of f.0 was = search (rules, step.met) in
     (computed ∙ ap (λ n. greater_of n was) same, step.met.1.1 ∙ same))
-    refl c.update.ensures.updated
+    refl c.try_update.ensures.updated

@@ -9,7 +9,7 @@ use Rattle.nb_map.specs.Calling.{HasMade}
 use Rattle.nb_map.specs.Steps.{owed_below, search_steps}
 use Rattle.nb_map.specs.declared.steps.rung.Below.TheVariants.{Passed}
 use Rattle.nb_map.specs.declared.steps.search.PathEnd.TheVariants.{Closed, Empty, Slot, Whole}
-use Rattle.nb_map.specs.inside.Climbing.{GoesOn, IsAt, made_by}
+use Rattle.nb_map.specs.inside.Climbing.{GoesAbove, IsAt, made_by}
 use Rattle.nb_map.proofs.steps.claim.find_or_claim.Goals as goal
 use Rattle.nb_map.proofs.steps.claim.find_or_claim.Goals.{In-Empty, After-settle_below-rung}
 
@@ -45,7 +45,7 @@ pub returns-in-Closed-clause-found : goal.returns-in-Closed-clause-found
 returns-in-Closed-clause-found c =
     let p = c.args.chain.now.shape in
     let ends = c.in-Closed.ensures.ends in
-    subst (λ g. GoesOn p c.args.call.now c.probe.new.seat g Passed) c.loop-i.invariant.same (
+    subst (λ g. GoesAbove p c.args.call.now c.probe.new.seat g Passed) c.loop-i.invariant.same (
       closed-above p (seen_by p c.probe.new.seat) c.loop-i.rung.g (key_of_call c.args.call.now)
           ends.0 ends.1,
       tt,

@@ -12,7 +12,7 @@ use Rattle.nb_map.proofs.Passing.{if-shown, slots-fall, stretch-steps, ways-add}
 use Rattle.nb_map.proofs.Searched.{table-within}
 use Rattle.nb_map.proofs.Walked.{first-still, gone-more, gone-none, gone-then, gone-within}
 use Rattle.nb_map.proofs.steps.walk.next_from.Goals as goal
-use Rattle.nb_map.proofs.steps.walk.next_from.Goals.{After-place_from, In-Slot}
+use Rattle.nb_map.proofs.steps.walk.next_from.Goals.{After-place_from}
 
 pub loop-place-init : goal.loop-place-init
 loop-place-init c =

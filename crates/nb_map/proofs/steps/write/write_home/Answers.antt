@@ -31,7 +31,7 @@ use Rattle.nb_map.proofs.Searched.{made-then}
 use Rattle.nb_map.proofs.Spent.{passed-sum, spent-none, spent-sooner}
 use Rattle.nb_map.proofs.steps.write.write_home.Given.{Over}
 use Rattle.nb_map.proofs.steps.write.write_home.Goals as goal
-use Rattle.nb_map.proofs.steps.write.write_home.Goals.{After-has_home, then-is_free+in_default, else-is_free}
+use Rattle.nb_map.proofs.steps.write.write_home.Goals.{After-has_home, then-not-is+then-is_empty+in_default, else-not-is, else-not-is-via-then-not-is+else-is_empty, else-not-is-via-else-not-is}
 use Rattle.nb_table.proofs.Theorems.{steps_add_up}
 
 -- ---- the look at the home slot
@@ -62,7 +62,7 @@ returns-in-Leave g c =
     let call = c.args.call.now in
     let old = c.args.seat.now in
     let left = subst (IsDecided call None) c.in-Leave.is c.decide.ensures in
-    let empty = c.is_free.ensures.yes c.if-is_free.true in
+    let empty = c.is_empty.ensures.yes c.if-is_empty.true in
     let load = (steps_add_up.one c.load_key_word_at-word.ensures.grows).steps in
     let home = path_slot p c.known_top-top.result (key_of_call call) 0 in
     let shown = load-on_path call c.load_key_word_at-word.result
@@ -122,10 +122,16 @@ has_home-requires-clause-home g c =
 
 fills :
     (g : Over) (c : After-has_home g) → c.load_key_word_at-word.result ≡ Empty → Fills c.args.call.now
-fills g c empty = elim c.if-is_free.branch [
-  | then-is_free+in_default w ↦
+fills g c empty = elim c.if-not-is.branch [
+  | then-not-is+then-is_empty+in_default w ↦
       acts-unless c.args.call.now None w.decide.result w.decide.ensures w.in_default.not-Leave
-  | else-is_free w ↦ absurd (c.is_free.ensures.no w.if-is_free.false empty)
+  | else-not-is w ↦ elim w.else-not-is.branch [
+    | else-not-is-via-then-not-is+else-is_empty v ↦
+        absurd (v.is_empty.ensures.no v.if-is_empty.false empty)
+    | else-not-is-via-else-not-is v ↦
+        absurd (let both : Empty ≡ Claimed c.key-2.result = sym empty
+        ∙ c.is.ensures.yes v.if-not-is.false in cc)
+  ]
 ]
 
 abbrev home : (g : Over) (c : After-has_home g) → ℕ

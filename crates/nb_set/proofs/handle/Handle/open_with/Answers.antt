@@ -2,7 +2,7 @@ use Rattle.std.proofs.Common.{◌≡◌, ◌∙◌, Err, arith, map, rules, subs
 use Rattle.std.proofs.lemmas.Grind.{common_steps}
 use Rattle.nb_map.specs.Opening as of_map
 use Rattle.nb_map.specs.declared.faults.OpenFault.TheVariants as fault
-use Rattle.nb_set.specs.OfMap.{entry_of}
+use Rattle.nb_set.specs.OfMap.{pair_for}
 use Rattle.nb_set.specs.Opening.{set_of_keys}
 use Rattle.nb_set.proofs.Opened.{begins-as, keys-as, too-many}
 use Rattle.nb_set.proofs.handle.Handle.open_with.Goals as goal
@@ -12,7 +12,7 @@ returns-clause-begun c =
     let keys = c.args.keys.now in
     let map' = c.in_ok-map.map in
     let entries = c.as_slice.ensures.value ∙ c.in_ok-entries.ensures in
-    begins-as c.args.shape (set_of_keys keys) (of_map.map_of_entries (map entry_of keys)) map'
+    begins-as c.args.shape (set_of_keys keys) (of_map.map_of_entries (map pair_for keys)) map'
     (keys-as keys)
     (subst (λ es. of_map.BeginsWith c.args.shape (of_map.map_of_entries es) map') entries
     c.in_ok-map.ensures.begun)

@@ -2,7 +2,7 @@ use Rattle.std.proofs.Common.{◌≡◌, ◌∙◌, Err, arith, map, rules, subs
 use Rattle.std.proofs.lemmas.Grind.{common_steps}
 use Rattle.nb_map.specs.Opening as of_map
 use Rattle.nb_map.specs.declared.faults.OpenFault.TheVariants as fault
-use Rattle.nb_set.specs.OfMap.{entry_of}
+use Rattle.nb_set.specs.OfMap.{pair_for}
 use Rattle.nb_set.specs.Opening.{set_of_keys}
 use Rattle.nb_set.proofs.Opened.{begun-as, keys-as, too-many}
 use Rattle.nb_set.proofs.set.LongSet.with_keys.Goals as goal
@@ -13,7 +13,7 @@ returns-clause-begun c =
     let seats = c.in_ok-map.seats.items in
     let entries = c.as_slice.ensures.value ∙ c.in_ok-entries.ensures in
     begun-as (record { map = c.in_ok-map.map }) (set_of_keys keys)
-    (of_map.map_of_entries (map entry_of keys)) seats (keys-as keys)
+    (of_map.map_of_entries (map pair_for keys)) seats (keys-as keys)
     (subst (λ es. of_map.HaveBegunWith c.in_ok-map.map (of_map.map_of_entries es) seats) entries
     c.in_ok-map.ensures.begun)
 

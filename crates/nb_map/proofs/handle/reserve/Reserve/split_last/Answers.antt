@@ -1,5 +1,5 @@
 use Rattle.std.proofs.Common.{◌∙◌, [], ap, sym, length, arith}
-use Rattle.nb_map.proofs.Reserves.{is-reserve, last-full, last-held, left-full, node-empty, reserve-of}
+use Rattle.nb_map.proofs.Reserves.{is-reserve, last-full, last-seat, left-full, node-empty, reserve-of}
 use Rattle.nb_map.proofs.handle.reserve.Reserve.split_last.Goals as goal
 
 pub invariant_of-result : goal.invariant_of-result
@@ -28,7 +28,7 @@ pub returns : goal.returns
 returns c = (
   rw c.in-Ok.ensures.items
       (sym c.self.view_is
-      ∙ last-held c.self.inside.nodes c.self.invariant c.len-count.result
+      ∙ last-seat c.self.inside.nodes c.self.invariant c.len-count.result
       (omega (arith, c.if-count-eq0.false)) (c.len-count.ensures.count ∙ ap length (sym c.self.view_is))
       c.exchanged.result c.exchanged.ensures.0 (sym c.in-Ok.ensures.tail ∙ c.exchanged.ensures.1)
       c.in-Some.seat c.in-Some.is),

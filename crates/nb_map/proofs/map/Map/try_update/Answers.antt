@@ -1,7 +1,7 @@
 use Rattle.std.proofs.Common.{arith}
 use Rattle.std.proofs.lemmas.Result.{err_from_is_err_and}
 use Rattle.nb_map.proofs.Updated.{come-all, come-end, come-first, come-more, come-refused}
-use Rattle.nb_map.proofs.map.Map.update.Goals as goal
+use Rattle.nb_map.proofs.map.Map.try_update.Goals as goal
 
 pub loop-lost-init : goal.loop-lost-init
 loop-lost-init g c = (

@@ -1,5 +1,5 @@
 use Rattle.nb_map.proofs.Updated.{HasCome}
-use Rattle.nb_map.proofs.map.Map.update.Given as goal
+use Rattle.nb_map.proofs.map.Map.try_update.Given as goal
 
 abbrev pub invariant-loop-lost : goal.invariant-loop-lost
 invariant-loop-lost g l =
