@@ -49,8 +49,9 @@
  * of any call. What it pins it unpins. It doesn't retire nor collect: in the middle of these it is
  * refused with SAMVOLIP_E_NESTED.
  *
- * Forks. The child has the pins of its thread alone. What was retired it frees, as the parent does,
- * but not what other threads were about to retire or free.
+ * Forks. The child has the pins of its thread, and those that ended threads left. What was retired it
+ * frees, as the parent does, but not what other threads were about to retire or free; that goes on
+ * to count as waiting.
  */
 #ifndef SAMVOLIP_OBJECTS_H
 #define SAMVOLIP_OBJECTS_H
