@@ -2,7 +2,7 @@
 ghost use Rattle.nb_map.specs.Maps.{IsMine};
 
 use crate::crew::{Done, Job, Worker, do_job};
-use crate::faults::{Fault, WorkFault, Wrong};
+use crate::faults::{BenchFault, WorkFault, Wrong};
 use crate::keys::{KEY_COUNT, Spacing, number};
 use crate::options::Options;
 use crate::random::Random;
@@ -178,7 +178,7 @@ pub(crate) fn do_puts<R: Threads + Sync + Wait + Clock + Eprint>(
     rt: &R,
     alloc: Global,
     options: &Options,
-) -> Result<Done, Fault> {
+) -> Result<Done, BenchFault> {
     let job = Puts {
         spacing: options.spacing,
         count: options.puts,
@@ -188,7 +188,11 @@ pub(crate) fn do_puts<R: Threads + Sync + Wait + Clock + Eprint>(
 
 /// Sees that each number that was put at the few keys was told once: to the call that took its
 /// place, or in the end. It answers how many there were.
-pub(crate) fn are_told_once(alloc: Global, options: &Options, done: Done) -> Result<u64, Fault> {
+pub(crate) fn are_told_once(
+    alloc: Global,
+    options: &Options,
+    done: Done,
+) -> Result<u64, BenchFault> {
     let Done {
         ended,
         mut told,
@@ -204,11 +208,11 @@ pub(crate) fn are_told_once(alloc: Global, options: &Options, done: Done) -> Res
     let are_all = told.len() as u64 == count;
     let mut numbers = told.iter().zip(1..=count);
     if !are_all || !numbers.all(|(value, wanted)| *value == wanted) {
-        return Err(Fault::Wrong(Wrong::Told));
+        return Err(BenchFault::Wrong(Wrong::Told));
     }
     let entries = ended.entries(alloc)?;
     if entries.len() as u64 != ended.size() {
-        return Err(Fault::Wrong(Wrong::Size));
+        return Err(BenchFault::Wrong(Wrong::Size));
     }
     Ok(count)
 }
@@ -218,7 +222,7 @@ pub(crate) fn do_adds<R: Threads + Sync + Wait + Clock + Eprint>(
     rt: &R,
     alloc: Global,
     options: &Options,
-) -> Result<Done, Fault> {
+) -> Result<Done, BenchFault> {
     let job = Adds {
         spacing: options.spacing,
         count: options.adds,
@@ -229,17 +233,17 @@ pub(crate) fn do_adds<R: Threads + Sync + Wait + Clock + Eprint>(
 
 /// Sees that the numbers in the map are the sum of what was added. It answers how many adds there
 /// were.
-pub(crate) fn are_summed(alloc: Global, done: &Done) -> Result<u64, Fault> {
+pub(crate) fn are_summed(alloc: Global, done: &Done) -> Result<u64, BenchFault> {
     let entries = done.ended.entries(alloc)?;
     let mut sum = 0u64;
     for (_key, value) in entries.iter() {
         sum = sum.wrapping_add(value.get());
     }
     if sum != done.tally.sum {
-        return Err(Fault::Wrong(Wrong::Sum));
+        return Err(BenchFault::Wrong(Wrong::Sum));
     }
     if entries.len() as u64 != done.ended.size() {
-        return Err(Fault::Wrong(Wrong::Size));
+        return Err(BenchFault::Wrong(Wrong::Size));
     }
     Ok(done.tally.calls)
 }

@@ -2,7 +2,7 @@
 ghost use Rattle.nb_map.specs.Maps.{IsMine};
 
 use crate::crew::{Job, Worker, do_job};
-use crate::faults::{Fault, WorkFault, Wrong};
+use crate::faults::{BenchFault, WorkFault, Wrong};
 use crate::growth::middle_of;
 use crate::keys::{Spacing, in_order, number};
 use crate::meeting::Meeting;
@@ -135,11 +135,11 @@ fn churn_once<R: Threads + Sync + Wait + Clock + Eprint>(
     alloc: Global,
     options: &Options,
     places: &[u32],
-) -> Result<Churned, Fault> {
+) -> Result<Churned, BenchFault> {
     let job = Churn::new(options);
     let done = do_job(rt, alloc, options.shape()?, options.spacing, places, &job)?;
     if done.ended.size() != places.len() as u64 {
-        return Err(Fault::Wrong(Wrong::Size));
+        return Err(BenchFault::Wrong(Wrong::Size));
     }
     Ok(Churned {
         calls: done.tally.calls,
@@ -154,7 +154,7 @@ pub(crate) fn measure<R: Threads + Sync + Wait + Clock + Eprint>(
     rt: &R,
     alloc: Global,
     options: &Options,
-) -> Result<Churned, Fault> {
+) -> Result<Churned, BenchFault> {
     let places = in_order(alloc, Churn::new(options).start_count())?;
     let mut times = Vec::new(alloc);
     let mut calls = 0;

@@ -2,7 +2,7 @@
 ghost use Rattle.std.specs.Prelude.{◌≡◌, All, IfOk, length};
 ghost use Rattle.nb_map.specs.Maps.{AreMine, IsMine};
 
-use crate::faults::{Fault, WorkFault};
+use crate::faults::{BenchFault, WorkFault};
 use crate::keys::{Spacing, number};
 use nb_core::{Key, MAX_SEATS, Num, OutOfMemory, Shape};
 use nb_map::{Ended, Map, Seat};
@@ -121,7 +121,7 @@ pub(crate) fn filled<R: Wait>(
     seats: Vec<Seat>,
     spacing: Spacing,
     places: &[u32],
-) -> Result<Vec<Seat>, Fault>
+) -> Result<Vec<Seat>, BenchFault>
     requires own { AreMine map.now seats.items }
     ensures own { IfOk result (λ back. AreMine map.now back.items) }
     ensures count { IfOk result (λ back. length back.items ≡ length seats.items) }
@@ -205,7 +205,7 @@ fn parted(
     alloc: Global,
     map: &Map,
     workers: Vec<Worker>,
-) -> Result<(Vec<Seat>, Tally, Vec<u64>), Fault>
+) -> Result<(Vec<Seat>, Tally, Vec<u64>), BenchFault>
     requires own { All (λ w. IsMine map.now w.seat) workers.items }
     ensures own { IfOk result (λ parts. AreMine map.now parts.0.items) }
     ensures count { IfOk result (λ parts. length parts.0.items ≡ length workers.items) }
@@ -222,7 +222,7 @@ fn parted(
             fault,
         } = worker;
         if let Some(fault) = fault {
-            return Err(Fault::Work(fault));
+            return Err(BenchFault::Work(fault));
         }
         all = all.beside(tally);
         append(&mut told, &told_one)?;
@@ -239,7 +239,7 @@ pub(crate) fn do_job<R: Threads + Sync + Wait + Clock + Eprint, J: Job + Sync>(
     spacing: Spacing,
     places: &[u32],
     job: &J,
-) -> Result<Done, Fault> {
+) -> Result<Done, BenchFault> {
     let (map, seats) = Map::new(alloc, shape)?;
     let seats = filled(rt, &map, seats, spacing, places)?;
     let mut workers = hired(alloc, &map, seats)?;

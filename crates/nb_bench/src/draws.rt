@@ -8,7 +8,7 @@ use crate::random::Random;
 use crate::timing::Watch;
 use crate::workloads::Mix;
 use nb_core::{Key, Num};
-use nb_lines::Progress;
+use nb_lines::ProgressMeter;
 use nb_map::{Map, Seat};
 use std::rt::Clock;
 use std::sync::Wait;
@@ -43,7 +43,7 @@ pub(crate) struct Draws<'a> {
     pub(crate) threads: usize,
     pub(crate) time: Duration,
     pub(crate) batches: u64,
-    pub(crate) progress: Progress,
+    pub(crate) progress: ProgressMeter,
 }
 
 impl<'a> Draws<'a> {
@@ -59,7 +59,7 @@ impl<'a> Draws<'a> {
     /// The same job, of which no progress is told.
     fn quiet(&self) -> Draws<'a> {
         Draws {
-            progress: Progress::NONE,
+            progress: ProgressMeter::NONE,
             ..*self
         }
     }

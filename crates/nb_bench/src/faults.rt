@@ -50,7 +50,7 @@ pub(crate) enum Wrong {
 
 /// Why nothing was measured.
 #[derive(Debug, Drop, Error)]
-pub(crate) enum Fault {
+pub(crate) enum BenchFault {
     #[error("{0}")]
     Words(WordsFault),
     /// There is no such map. What words ask for one is seen before.
@@ -64,51 +64,51 @@ pub(crate) enum Fault {
     Write,
 }
 
-impl Fault {
+impl BenchFault {
     /// The exit status.
     pub(crate) fn status(&self) -> u8 {
         match self {
-            Fault::Words(fault) => fault.status(),
-            Fault::Write => 1,
-            Fault::Wrong(_) => 2,
-            Fault::Shape(_) => 3,
-            Fault::Work(_) => 4,
+            BenchFault::Words(fault) => fault.status(),
+            BenchFault::Write => 1,
+            BenchFault::Wrong(_) => 2,
+            BenchFault::Shape(_) => 3,
+            BenchFault::Work(_) => 4,
         }
     }
 }
 
-impl From<WordsFault> for Fault {
-    fn from(fault: WordsFault) -> Fault {
-        Fault::Words(fault)
+impl From<WordsFault> for BenchFault {
+    fn from(fault: WordsFault) -> BenchFault {
+        BenchFault::Words(fault)
     }
 }
 
-impl From<ShapeFault> for Fault {
-    fn from(fault: ShapeFault) -> Fault {
-        Fault::Shape(fault)
+impl From<ShapeFault> for BenchFault {
+    fn from(fault: ShapeFault) -> BenchFault {
+        BenchFault::Shape(fault)
     }
 }
 
-impl From<OutOfMemory> for Fault {
-    fn from(_error: OutOfMemory) -> Fault {
-        Fault::Work(WorkFault::OutOfMemory)
+impl From<OutOfMemory> for BenchFault {
+    fn from(_error: OutOfMemory) -> BenchFault {
+        BenchFault::Work(WorkFault::OutOfMemory)
     }
 }
 
-impl<T: Drop> From<AllocFailed<T>> for Fault {
-    fn from(_refused: AllocFailed<T>) -> Fault {
-        Fault::Work(WorkFault::OutOfMemory)
+impl<T: Drop> From<AllocFailed<T>> for BenchFault {
+    fn from(_refused: AllocFailed<T>) -> BenchFault {
+        BenchFault::Work(WorkFault::OutOfMemory)
     }
 }
 
-impl From<WorkFault> for Fault {
-    fn from(fault: WorkFault) -> Fault {
-        Fault::Work(fault)
+impl From<WorkFault> for BenchFault {
+    fn from(fault: WorkFault) -> BenchFault {
+        BenchFault::Work(fault)
     }
 }
 
-impl From<Wrong> for Fault {
-    fn from(wrong: Wrong) -> Fault {
-        Fault::Wrong(wrong)
+impl From<Wrong> for BenchFault {
+    fn from(wrong: Wrong) -> BenchFault {
+        BenchFault::Wrong(wrong)
     }
 }

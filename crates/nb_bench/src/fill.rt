@@ -1,7 +1,7 @@
 //! Many keys: maps with room for so many are made, filled and read.
 
 use crate::crew::do_job;
-use crate::faults::{Fault, Wrong};
+use crate::faults::{BenchFault, Wrong};
 use crate::growth::{Growth, Pass};
 use crate::keys::shuffled;
 use crate::options::Options;
@@ -56,7 +56,7 @@ impl Times {
 }
 
 /// How long it takes to make a map.
-fn time_make<R: Clock>(rt: &R, alloc: Global, options: &Options) -> Result<u64, Fault> {
+fn time_make<R: Clock>(rt: &R, alloc: Global, options: &Options) -> Result<u64, BenchFault> {
     let shape = options.shape()?;
     let start = now(rt)?;
     let made = Map::new(alloc, shape)?;
@@ -73,7 +73,7 @@ fn time_pass<R: Threads + Sync + Wait + Clock + Eprint>(
     options: &Options,
     pass: Pass,
     places: &[u32],
-) -> Result<u64, Fault> {
+) -> Result<u64, BenchFault> {
     let job = Growth::new(pass, options, places);
     let before = match pass {
         Pass::Gets => places,
@@ -81,7 +81,7 @@ fn time_pass<R: Threads + Sync + Wait + Clock + Eprint>(
     };
     let done = do_job(rt, alloc, options.shape()?, options.spacing, before, &job)?;
     if done.ended.size() != places.len() as u64 {
-        return Err(Fault::Wrong(Wrong::Size));
+        return Err(BenchFault::Wrong(Wrong::Size));
     }
     Ok(done.tally.nanoseconds)
 }
@@ -92,7 +92,7 @@ fn time_once<R: Threads + Sync + Wait + Clock + Eprint>(
     alloc: Global,
     options: &Options,
     places: &[u32],
-) -> Result<Times, Fault> {
+) -> Result<Times, BenchFault> {
     Ok(Times {
         make: time_make(rt, alloc, options)?,
         fill: time_pass(rt, alloc, options, Pass::Puts, places)?,
@@ -107,7 +107,7 @@ pub(crate) fn measure<R: Threads + Sync + Wait + Clock + Eprint>(
     rt: &R,
     alloc: Global,
     options: &Options,
-) -> Result<Times, Fault> {
+) -> Result<Times, BenchFault> {
     let places = shuffled(alloc, options.keys)?;
     let mut times = Times::NONE;
     let mut watch = Watch::start(rt, options.time, options.progress)?;

@@ -3,7 +3,7 @@ ghost use Rattle.std.specs.Prelude.{◌≡◌, ◌*◌, ◌/◌, ◌-◌, ◌<�
 ghost use Rattle.nb_map.specs.Maps.{IsMine};
 
 use crate::crew::{Done, Job, Worker, do_job, put_all};
-use crate::faults::{Fault, WorkFault, Wrong};
+use crate::faults::{BenchFault, WorkFault, Wrong};
 use crate::keys::{Spacing, number, shuffled};
 use crate::kinds::get_all;
 use crate::meeting::Meeting;
@@ -152,12 +152,12 @@ fn put_once<R: Threads + Sync + Wait + Clock + Eprint>(
     options: &Options,
     pass: Pass,
     places: &[u32],
-) -> Result<Done, Fault> {
+) -> Result<Done, BenchFault> {
     let shape = options.shape()?;
     let job = Growth::new(pass, options, places);
     let done = do_job(rt, alloc, shape, options.spacing, &[], &job)?;
     if done.ended.size() != places.len() as u64 {
-        return Err(Fault::Wrong(Wrong::Size));
+        return Err(BenchFault::Wrong(Wrong::Size));
     }
     Ok(done)
 }
@@ -193,7 +193,7 @@ fn within(times: &[u64], thousandths: usize) -> u64
 }
 
 /// The middle one of these times.
-pub(crate) fn middle_of(times: Vec<u64>) -> Result<u64, Fault> {
+pub(crate) fn middle_of(times: Vec<u64>) -> Result<u64, BenchFault> {
     let mut times = times;
     times.sort()?;
     Ok(within(times.as_slice(), 500))
@@ -205,7 +205,7 @@ fn time_round<R: Threads + Sync + Wait + Clock + Eprint>(
     alloc: Global,
     options: &Options,
     places: &[u32],
-) -> Result<Times, Fault> {
+) -> Result<Times, BenchFault> {
     let whole = put_once(rt, alloc, options, Pass::Puts, places)?;
     let mut timed = put_once(rt, alloc, options, Pass::TimedPuts, places)?;
     timed.told.sort()?;
@@ -220,7 +220,7 @@ fn time_round<R: Threads + Sync + Wait + Clock + Eprint>(
 }
 
 /// The middle one of each of the rounds' times.
-fn middle_of_each(alloc: Global, rounds: &[Times]) -> Result<Times, Fault> {
+fn middle_of_each(alloc: Global, rounds: &[Times]) -> Result<Times, BenchFault> {
     let mut middle = [0; 5];
     for (place, time) in middle.iter_mut().enumerate() {
         *time = middle_of(times_at(alloc, rounds, place)?)?;
@@ -245,7 +245,7 @@ pub(crate) fn measure<R: Threads + Sync + Wait + Clock + Eprint>(
     rt: &R,
     alloc: Global,
     options: &Options,
-) -> Result<Times, Fault> {
+) -> Result<Times, BenchFault> {
     let places = shuffled(alloc, options.keys)?;
     let mut times = Vec::new(alloc);
     let mut watch = Watch::start(rt, options.time, options.progress)?;

@@ -3,7 +3,7 @@
 ghost use Rattle.nb_map.specs.Maps.{AreMine, IsMine};
 
 use crate::crew::{put, put_all};
-use crate::faults::{Fault, WorkFault, Wrong};
+use crate::faults::{BenchFault, WorkFault, Wrong};
 use crate::keys::{KEY_COUNT, Spacing, number, shuffled};
 use crate::options::Options;
 use crate::timing::{Watch, nanoseconds_since, now};
@@ -154,7 +154,7 @@ fn time_kinds<R: Wait + Clock>(
     spacing: Spacing,
     places: &[u32],
     times: &mut [u64; 6],
-) -> Result<(), Fault>
+) -> Result<(), BenchFault>
     requires own { IsMine map.now seat.old }
     ensures own { IsMine map.now seat.new }
 {
@@ -165,7 +165,7 @@ fn time_kinds<R: Wait + Clock>(
             _ => 0,
         };
         if sum != wanted {
-            return Err(Fault::Wrong(Wrong::Sum));
+            return Err(BenchFault::Wrong(Wrong::Sum));
         }
         *time = taken.min(*time);
     }
@@ -179,7 +179,7 @@ fn time_once<R: Wait + Clock>(
     options: &Options,
     places: &[u32],
     times: &mut [u64; 6],
-) -> Result<(), Fault> {
+) -> Result<(), BenchFault> {
     let (map, seats) = Map::new(alloc, options.shape()?)?;
     time_by_one(rt, &map, seats, options.spacing, places, times)
 }
@@ -192,7 +192,7 @@ fn time_by_one<R: Wait + Clock>(
     spacing: Spacing,
     places: &[u32],
     times: &mut [u64; 6],
-) -> Result<(), Fault>
+) -> Result<(), BenchFault>
     requires own { AreMine map.now seats.items }
 {
     let mut seats = seats;
@@ -208,7 +208,7 @@ pub(crate) fn measure<R: Wait + Clock + Eprint>(
     rt: &R,
     alloc: Global,
     options: &Options,
-) -> Result<[u64; 6], Fault> {
+) -> Result<[u64; 6], BenchFault> {
     let places = shuffled(alloc, KEY_COUNT)?;
     let mut times = [u64::MAX; 6];
     let mut watch = Watch::start(rt, options.time, options.progress)?;

@@ -21,11 +21,11 @@ pub(crate) mod serve;
 pub(crate) mod timing;
 pub(crate) mod workloads;
 
-use nb_lines::Progress;
+use nb_lines::ProgressMeter;
 use std::io::IsTerminal;
 use std::process::ExitCode;
 
 fn main(rt: HostRuntime) -> ExitCode {
-    let progress = Progress::new(rt.stderr().is_terminal(), None);
+    let progress = ProgressMeter::new(rt.stderr().is_terminal(), None);
     ExitCode::from(serve::serve(&rt, progress))
 }

@@ -1,7 +1,7 @@
 //! What memory a map takes that has all keys.
 
 use crate::crew::filled;
-use crate::faults::Fault;
+use crate::faults::BenchFault;
 use crate::keys::shuffled;
 use crate::options::Options;
 use nb_core::read_number;
@@ -38,7 +38,7 @@ pub(crate) fn measure<R: Wait + Files + AllocGlobal>(
     rt: &R,
     alloc: Global,
     options: &Options,
-) -> Result<Option<u64>, Fault> {
+) -> Result<Option<u64>, BenchFault> {
     let places = shuffled(alloc, options.keys)?;
     let before = resident(rt);
     let (map, seats) = Map::new(alloc, options.shape()?)?;

@@ -7,7 +7,9 @@ use crate::churn::keys_ever;
 use crate::keys::{Law, Spacing};
 use crate::workloads::{Plan, Workload};
 use nb_core::{MAX_EXPONENT, Shape, ShapeFault};
-use nb_lines::{CommandLine, Form, Given, NumberWord, Progress, Word, WordsFault, wrong_word};
+use nb_lines::{
+    Argument, CommandLine, Form, Given, NumberWord, ProgressMeter, WordsFault, wrong_word,
+};
 use std::alloc::Global;
 use std::time::Duration;
 
@@ -41,7 +43,7 @@ pub(crate) struct Options {
     /// How many adds all threads make together in the check.
     pub(crate) adds: u64,
     /// How progress is told.
-    pub(crate) progress: Progress,
+    pub(crate) progress: ProgressMeter,
 }
 
 impl Options {
@@ -131,67 +133,67 @@ pub(crate) const LINE: CommandLine = CommandLine {
     name: "nb_bench",
     about: "Measures a map of whole numbers and prints 'nb WORKLOAD THREADS OPS NANOSECONDS'",
     more: None,
-    words: &[
-        Word {
+    arguments: &[
+        Argument {
             form: Form::Place("WORKLOAD"),
             default: None,
             help: WORKLOADS,
         },
-        Word {
+        Argument {
             form: Form::Place("THREADS"),
             default: Some("1"),
             help: "How many threads run at once, each with its own seat; 1 to 256",
         },
-        Word {
+        Argument {
             form: Form::Place("SECONDS"),
             default: Some("1"),
             help: "How many seconds to measure, such as 0.5",
         },
-        Word {
+        Argument {
             form: Form::Text("--plan", "E,E,.."),
             default: None,
             help: "Tables of 2^E slots, one for each E; 1 to 16 numbers from 2 to 28; \
                 without it D, F and G heed no --stripes, --reprobes or --chunk",
         },
-        Word {
+        Argument {
             form: Form::Number(STRIPES, "P"),
             default: None,
             help: "How many words the count of keys is spread over; 1 to 256",
         },
-        Word {
+        Argument {
             form: Form::Number(REPROBES, "N"),
             default: None,
             help: "How many slots a new key may try before a table grows; 1 to 4294967295",
         },
-        Word {
+        Argument {
             form: Form::Number(CHUNK, "C"),
             default: Some("8"),
             help: "How many slots a thread copies at a time; a power of two from 4 to 1024",
         },
-        Word {
+        Argument {
             form: Form::Text("--keys", "WHICH"),
             default: Some("dense"),
             help: "dense (0, 1, 2 and so on), spread (over the whole range) or \
                 zipf (dense, and in A to C some much more often)",
         },
-        Word {
+        Argument {
             form: Form::Number(CALLS, "N"),
             default: None,
             help: "In A to C and E: how many calls each thread makes, rounded up to 1024s; \
                 in D: after how many puts of all threads it ends; \
                 in G: how many calls each thread makes in a round",
         },
-        Word {
+        Argument {
             form: Form::Number(PUTS, "N"),
             default: Some("150000"),
             help: "In check: how many puts each thread makes; 0 to 1000000",
         },
-        Word {
+        Argument {
             form: Form::Number(ADDS, "N"),
             default: Some("10000000"),
             help: "In check: how many adds all threads make together; 0 to 4294967295",
         },
-        Word {
+        Argument {
             form: Form::Number(LIVE, "N"),
             default: None,
             help: "In A to G: how many keys there are; 1 to 178956970; by default 65536, in D 32768, \
@@ -314,7 +316,7 @@ fn options_of(alloc: Global, given: &Given) -> Result<Options, WordsFault> {
         calls: CALLS.find(alloc, given)?.unwrap_or(u64::MAX),
         puts: PUTS.find(alloc, given)?.unwrap_or(0) as u32,
         adds: ADDS.find(alloc, given)?.unwrap_or(0),
-        progress: Progress::NONE,
+        progress: ProgressMeter::NONE,
     })
 }
 

@@ -2,7 +2,7 @@
 
 use crate::crew::do_job;
 use crate::draws::{BATCH, Calls, Draws};
-use crate::faults::Fault;
+use crate::faults::BenchFault;
 use crate::keys::{Law, samples_of, shuffled};
 use crate::options::Options;
 use crate::workloads::{Mix, Workload};
@@ -52,7 +52,7 @@ pub(crate) fn measure<R: Threads + Sync + Wait + Clock + Eprint>(
     rt: &R,
     alloc: Global,
     options: &Options,
-) -> Result<Measured, Fault> {
+) -> Result<Measured, BenchFault> {
     let places = shuffled(alloc, options.keys)?;
     let (half, _) = places.as_slice().split_at(places.len() / 2);
     let samples = draws_of(alloc, options, places.as_slice())?;

@@ -1,14 +1,14 @@
 //! The program: its words, what it prints, and its exit status.
 
 use crate::checks::{are_summed, are_told_once, do_adds, do_puts};
-use crate::faults::Fault;
+use crate::faults::BenchFault;
 use crate::keys::KEY_COUNT;
 use crate::kinds::Kind;
 use crate::options::{LINE, Options, read_options};
 use crate::runs::{Measured, measure};
 use crate::workloads::Workload;
 use crate::{churn, fill, growth, kinds, memory};
-use nb_lines::{Progress, WordsFault, answer, complain};
+use nb_lines::{ProgressMeter, WordsFault, answer, complain};
 use std::alloc::Global;
 use std::io;
 use std::rt::{Clock, Env, Files};
@@ -16,10 +16,10 @@ use std::sync::Wait;
 use std::thread::Threads;
 
 /// What a write comes to.
-fn written(wrote: io::Result<()>) -> Result<(), Fault> {
+fn written(wrote: io::Result<()>) -> Result<(), BenchFault> {
     match wrote {
         Ok(()) => Ok(()),
-        Err(_) => Err(Fault::Write),
+        Err(_) => Err(BenchFault::Write),
     }
 }
 
@@ -28,7 +28,7 @@ fn run_checks<R: Threads + Sync + Wait + Clock + Print + Eprint>(
     rt: &R,
     alloc: Global,
     options: &Options,
-) -> Result<(), Fault> {
+) -> Result<(), BenchFault> {
     let threads = options.threads;
     let puts = are_told_once(alloc, options, do_puts(rt, alloc, options)?)?;
     options.progress.tell_part(rt, 1, 2, "parts");
@@ -41,7 +41,7 @@ fn run_kinds<R: Wait + Clock + Print + Eprint>(
     rt: &R,
     alloc: Global,
     options: &Options,
-) -> Result<(), Fault> {
+) -> Result<(), BenchFault> {
     let times = kinds::measure(rt, alloc, options)?;
     for (kind, nanoseconds) in Kind::ALL.iter().zip(times.iter()) {
         let name = kind.name();
@@ -55,7 +55,7 @@ fn print_lines<R: Print>(
     rt: &R,
     threads: usize,
     lines: &[(&'static str, u32, u64)],
-) -> Result<(), Fault> {
+) -> Result<(), BenchFault> {
     for (name, calls, number) in lines.iter() {
         written(println!(rt; "nb {name} {threads} {calls} {number}"))?;
     }
@@ -67,13 +67,13 @@ fn run_growth<R: Threads + Sync + Wait + Clock + Print + Eprint>(
     rt: &R,
     alloc: Global,
     options: &Options,
-) -> Result<(), Fault> {
+) -> Result<(), BenchFault> {
     let lines = growth::lines_of(growth::measure(rt, alloc, options)?, options.keys);
     print_lines(rt, options.threads, lines.as_slice())
 }
 
 /// Fills and reads maps of many keys, and prints a line for each time, and one for the memory.
-fn run_fill<R>(rt: &R, alloc: Global, options: &Options) -> Result<(), Fault>
+fn run_fill<R>(rt: &R, alloc: Global, options: &Options) -> Result<(), BenchFault>
 where
     R: Threads + Sync + Wait + Clock + Print + Eprint + Files + AllocGlobal,
 {
@@ -91,7 +91,7 @@ fn run_churn<R: Threads + Sync + Wait + Clock + Print + Eprint>(
     rt: &R,
     alloc: Global,
     options: &Options,
-) -> Result<(), Fault> {
+) -> Result<(), BenchFault> {
     let threads = options.threads;
     let churned = churn::measure(rt, alloc, options)?;
     let (calls, nanoseconds) = (churned.calls, churned.nanoseconds);
@@ -104,7 +104,7 @@ fn run_timed<R: Threads + Sync + Wait + Clock + Print + Eprint>(
     rt: &R,
     alloc: Global,
     options: &Options,
-) -> Result<(), Fault> {
+) -> Result<(), BenchFault> {
     let name = options.workload.name();
     let threads = options.threads;
     let Measured { calls, nanoseconds } = measure(rt, alloc, options)?;
@@ -112,7 +112,7 @@ fn run_timed<R: Threads + Sync + Wait + Clock + Print + Eprint>(
 }
 
 /// Runs what the options ask for.
-fn run<R>(rt: &R, alloc: Global, options: &Options) -> Result<(), Fault>
+fn run<R>(rt: &R, alloc: Global, options: &Options) -> Result<(), BenchFault>
 where
     R: Threads + Sync + Wait + Clock + Print + Eprint + Files + AllocGlobal,
 {
@@ -127,7 +127,7 @@ where
 }
 
 /// Reads the options and runs what they ask for.
-fn attend<R>(rt: &R, progress: Progress) -> Result<(), Fault>
+fn attend<R>(rt: &R, progress: ProgressMeter) -> Result<(), BenchFault>
 where
     R: Env + Files + Threads + Sync + Wait + Clock + Print + Eprint + AllocGlobal,
 {
@@ -141,13 +141,13 @@ where
 /// Serves a process, and answers its exit status: 0 where it ran well or help or the version was
 /// asked for, 1 where nothing could be written, 2 where a check found something wrong, 3 for wrong
 /// words, 4 where a worker stopped early.
-pub(crate) fn serve<R>(rt: &R, progress: Progress) -> u8
+pub(crate) fn serve<R>(rt: &R, progress: ProgressMeter) -> u8
 where
     R: Env + Files + Threads + Sync + Wait + Clock + Print + Eprint + AllocGlobal,
 {
     match attend(rt, progress) {
         Ok(()) => 0,
-        Err(Fault::Words(WordsFault::Answered(text))) => answer(rt, LINE.name, text.as_str()),
+        Err(BenchFault::Words(WordsFault::Answered(text))) => answer(rt, LINE.name, text.as_str()),
         Err(fault) => {
             let status = fault.status();
             complain(rt, LINE.name, &fault, status)

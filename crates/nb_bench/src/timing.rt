@@ -1,7 +1,7 @@
 //! The clock: how long something takes, and when the time of a measurement is up.
 
 use crate::faults::WorkFault;
-use nb_lines::{Progress, Seconds};
+use nb_lines::{ProgressMeter, Seconds};
 use std::rt::Clock;
 use std::time::{Duration, Instant};
 
@@ -35,7 +35,7 @@ impl Watch {
     pub(crate) fn start<R: Clock>(
         rt: &R,
         time: Duration,
-        progress: Progress,
+        progress: ProgressMeter,
     ) -> Result<Watch, WorkFault> {
         Ok(Watch {
             start: Instant::now(rt)?,

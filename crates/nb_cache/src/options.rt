@@ -1,7 +1,7 @@
 //! The words of the command line.
 
 use nb_core::Shape;
-use nb_lines::{CommandLine, Fault, Form, Given, MANY_KEYS, WORKERS, Word, WordsFault};
+use nb_lines::{Argument, CommandLine, Form, Given, MANY_KEYS, ProgramFault, WORKERS, WordsFault};
 use std::alloc::Global;
 
 /// How a trace is to be replayed.
@@ -18,7 +18,7 @@ pub(crate) struct Options {
 impl Options {
     /// A map that begins small, and grows where a key isn't within a few slots of its home, up to
     /// a table with room for so many keys and more.
-    pub(crate) fn shape(&self) -> Result<Shape, Fault> {
+    pub(crate) fn shape(&self) -> Result<Shape, ProgramFault> {
         Ok(Shape::for_keys(self.keys, self.workers)?)
     }
 }
@@ -50,18 +50,18 @@ pub(crate) const LINE: CommandLine = CommandLine {
     name: "nb_cache",
     about: "Replays a trace of gets and puts on a cache of texts",
     more: Some(MORE),
-    words: &[
-        Word {
+    arguments: &[
+        Argument {
             form: Form::Number(WORKERS, "N"),
             default: Some("4"),
             help: "How many threads replay the trace; 1 to 8",
         },
-        Word {
+        Argument {
             form: Form::Flag("--replies"),
             default: None,
             help: "Also print what each get found, worker by worker",
         },
-        Word {
+        Argument {
             form: Form::Number(MANY_KEYS, "N"),
             default: Some("349525"),
             help: "Make room for at least N different keys; 1 to 178956970",

@@ -2,7 +2,7 @@
 
 use crate::trace::{Request, read_request};
 use nb_core::{MAX_SEATS, OutOfMemory};
-use nb_lines::{Cause, Fault, Lines};
+use nb_lines::{Cause, Lines, ProgramFault};
 use std::alloc::Global;
 use std::thread;
 use std::thread::Threads;
@@ -120,7 +120,7 @@ pub(crate) fn parsed<'a, R: Threads + Sync>(
     alloc: Global,
     text: &'a [u8],
     workers: usize,
-) -> Result<Trace<'a>, Fault> {
+) -> Result<Trace<'a>, ProgramFault> {
     let mut parts = parts_of(alloc, text, workers)?;
     thread::for_each_mut(
         rt,
@@ -133,8 +133,8 @@ pub(crate) fn parsed<'a, R: Threads + Sync>(
         lines = lines.wrapping_add(part.lines);
         match part.stopped {
             None => {}
-            Some(Stop::Line(cause)) => return Err(Fault::Line(lines.wrapping_add(1), cause)),
-            Some(Stop::OutOfMemory) => return Err(Fault::OutOfMemory),
+            Some(Stop::Line(cause)) => return Err(ProgramFault::Line(lines.wrapping_add(1), cause)),
+            Some(Stop::OutOfMemory) => return Err(ProgramFault::OutOfMemory),
         }
     }
     Ok(Trace { parts, lines })

@@ -1,7 +1,7 @@
 //! Printing: what the gets found, and what was counted.
 
 use crate::replaying::{Counts, Replayed};
-use nb_lines::Fault;
+use nb_lines::ProgramFault;
 use std::alloc::Global;
 use std::io;
 use std::io::{BufWriter, Write};
@@ -11,13 +11,13 @@ pub(crate) fn print<W: Write + Drop>(
     alloc: Global,
     writer: W,
     replayed: &Replayed,
-) -> Result<(), Fault> {
+) -> Result<(), ProgramFault> {
     let Ok(mut writer) = BufWriter::new(alloc, writer) else {
-        return Err(Fault::OutOfMemory);
+        return Err(ProgramFault::OutOfMemory);
     };
     match print_to(&mut writer, replayed) {
         Ok(()) => Ok(()),
-        Err(_) => Err(Fault::Write),
+        Err(_) => Err(ProgramFault::Write),
     }
 }
 

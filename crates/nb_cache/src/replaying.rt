@@ -9,7 +9,7 @@ use crate::parsing::{Trace, parsed};
 use crate::trace::{Action, Request};
 use itoa::Buffer;
 use nb_core::{Key, MAX_SEATS, Num, OutOfMemory, Shape};
-use nb_lines::{Fault, Progress, key_of, number_of};
+use nb_lines::{ProgramFault, ProgressMeter, key_of, number_of};
 use nb_long::{Found, Handle, LongFault};
 use std::alloc::Global;
 use std::sync::Wait;
@@ -71,7 +71,7 @@ struct Worker {
     handle: Handle<Page>,
     replayed: Replayed,
     /// Why it stopped early.
-    fault: Option<Fault>,
+    fault: Option<ProgramFault>,
 }
 
 /// What all workers share.
@@ -81,7 +81,7 @@ struct Run<'a> {
     tells_replies: bool,
     /// How many lines are done, as far as workers have told it.
     done: AtomicU64,
-    progress: Progress,
+    progress: ProgressMeter,
 }
 
 /// Replays a trace on a new cache.
@@ -90,8 +90,8 @@ pub(crate) fn replay<R: Threads + Sync + Wait + Eprint>(
     alloc: Global,
     options: &Options,
     text: &[u8],
-    progress: Progress,
-) -> Result<Replayed, Fault> {
+    progress: ProgressMeter,
+) -> Result<Replayed, ProgramFault> {
     let run = Run {
         trace: parsed(rt, alloc, text, options.workers)?,
         tells_replies: options.tells_replies,
@@ -159,7 +159,7 @@ fn replay_part<R: Wait + Eprint>(
     run: &Run<'_>,
     worker: &mut Worker,
     number: usize,
-) -> Result<(), Fault> {
+) -> Result<(), ProgramFault> {
     for part in run.trace.parts.iter() {
         if let Some(requests) = part.requests.get(number) {
             replay_requests(rt, alloc, run, worker, requests.as_slice())?;
@@ -175,7 +175,7 @@ fn replay_requests<R: Wait + Eprint>(
     run: &Run<'_>,
     worker: &mut Worker,
     requests: &[Request<'_>],
-) -> Result<(), Fault> {
+) -> Result<(), ProgramFault> {
     let mut lines = 0u64;
     for request in requests {
         let key = key_of(request.number).unwrap();
@@ -205,7 +205,7 @@ fn call<R: Wait>(
     key: Key,
     action: Action<'_>,
     tells_replies: bool,
-) -> Result<(), Fault> {
+) -> Result<(), ProgramFault> {
     match action {
         Action::Get => get(worker, key, tells_replies),
         Action::Put(text) => put(rt, alloc, worker, key, text),
@@ -214,7 +214,7 @@ fn call<R: Wait>(
 
 /// Gets a key's text, and says what it is where that is asked for. It counts as a hit just where
 /// the map replied that it has something at the key.
-fn get(worker: &mut Worker, key: Key, tells_replies: bool) -> Result<(), Fault>
+fn get(worker: &mut Worker, key: Key, tells_replies: bool) -> Result<(), ProgramFault>
     ensures hit { OnOk result ((number : Option ℕ)
         × HasReplied (map_call.Get key) worker.old.handle.seat worker.new.handle.seat
         (reply_at (map_call.Get key) number)
@@ -244,7 +244,7 @@ fn read_page(
     key: Key,
     number: Option<Num>,
     tells_replies: bool,
-) -> Result<(), Fault> {
+) -> Result<(), ProgramFault> {
     let page = shown(cache, number)?;
     if tells_replies {
         let text = match page.as_ref() {
@@ -257,11 +257,14 @@ fn read_page(
 }
 
 /// What the store shows under a number, if there is one.
-fn shown(cache: &Handle<Page>, number: Option<Num>) -> Result<Option<Found<'_, Page>>, Fault> {
+fn shown(
+    cache: &Handle<Page>,
+    number: Option<Num>,
+) -> Result<Option<Found<'_, Page>>, ProgramFault> {
     let Some(number) = number else {
         return Ok(None);
     };
-    let page = cache.show(number).ok_or(Fault::Unshown)?;
+    let page = cache.show(number).ok_or(ProgramFault::Unshown)?;
     Ok(Some(page))
 }
 
@@ -272,7 +275,7 @@ fn put<R: Wait>(
     worker: &mut Worker,
     key: Key,
     text: &[u8],
-) -> Result<(), Fault> {
+) -> Result<(), ProgramFault> {
     let page = Page {
         text: Vec::from_slice(alloc, text)?,
     };
@@ -290,11 +293,11 @@ fn put<R: Wait>(
 
 /// What a refused put comes to. So many puts that their numbers are past the greatest are out of
 /// reach.
-fn fault_of(refused: LongFault<Page>) -> Fault {
+fn fault_of(refused: LongFault<Page>) -> ProgramFault {
     match refused {
-        LongFault::OutOfMemory(_) => Fault::OutOfMemory,
-        LongFault::ValueRange(_) | LongFault::Full(_) => Fault::Full,
-        LongFault::Unshown(_) => Fault::Unshown,
+        LongFault::OutOfMemory(_) => ProgramFault::OutOfMemory,
+        LongFault::ValueRange(_) | LongFault::Full(_) => ProgramFault::Full,
+        LongFault::Unshown(_) => ProgramFault::Unshown,
     }
 }
 
@@ -309,7 +312,7 @@ fn say_reply(replies: &mut Vec<u8>, key: Key, text: &[u8]) -> Result<(), OutOfMe
 }
 
 /// What came of all parts, worker by worker.
-fn gathered(alloc: Global, workers: Vec<Worker>) -> Result<Replayed, Fault> {
+fn gathered(alloc: Global, workers: Vec<Worker>) -> Result<Replayed, ProgramFault> {
     let mut counts = Counts::NOTHING;
     let mut replies = Vec::new(alloc);
     for worker in workers {

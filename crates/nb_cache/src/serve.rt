@@ -3,7 +3,7 @@
 use crate::options::{LINE, options_of};
 use crate::printing::print;
 use crate::replaying::replay;
-use nb_lines::{Fault, Progress};
+use nb_lines::{ProgramFault, ProgressMeter};
 use std::alloc::Global;
 use std::io;
 use std::io::{ErrorKind, Read};
@@ -12,18 +12,18 @@ use std::sync::Wait;
 use std::thread::Threads;
 
 /// All that a reader gives.
-fn read_all<I: Read + Drop>(alloc: Global, reader: I) -> Result<Vec<u8>, Fault> {
+fn read_all<I: Read + Drop>(alloc: Global, reader: I) -> Result<Vec<u8>, ProgramFault> {
     let mut reader = reader;
     let mut bytes = Vec::new(alloc);
     match reader.read_to_end(&mut bytes) {
         Ok(_) => Ok(bytes),
-        Err(error) if error.kind() == ErrorKind::OutOfMemory => Err(Fault::OutOfMemory),
-        Err(_) => Err(Fault::Read),
+        Err(error) if error.kind() == ErrorKind::OutOfMemory => Err(ProgramFault::OutOfMemory),
+        Err(_) => Err(ProgramFault::Read),
     }
 }
 
 /// Serves a process: does what its words ask for.
-pub(crate) fn serve<R, I>(rt: &R, reader: I, progress: Progress) -> Result<(), Fault>
+pub(crate) fn serve<R, I>(rt: &R, reader: I, progress: ProgressMeter) -> Result<(), ProgramFault>
 where
     R: Env + Threads + Sync + Wait + Print + Eprint + AllocGlobal,
     I: Read + Drop,

@@ -11,12 +11,12 @@ pub(crate) mod printing;
 pub(crate) mod serve;
 pub(crate) mod taking;
 
-use nb_lines::{Progress, end_of, size_of_input};
+use nb_lines::{ProgressMeter, end_of, size_of_input};
 use std::io::IsTerminal;
 use std::process::ExitCode;
 
 fn main(rt: HostRuntime) -> ExitCode {
-    let progress = Progress::new(rt.stderr().is_terminal(), size_of_input(&rt));
+    let progress = ProgressMeter::new(rt.stderr().is_terminal(), size_of_input(&rt));
     let served = serve::serve(&rt, rt.stdin(), progress);
     ExitCode::from(end_of(&rt, options::LINE.name, served))
 }

@@ -1,7 +1,7 @@
 //! The words of the command line.
 
 use nb_core::Shape;
-use nb_lines::{CommandLine, Fault, Form, Given, MANY_KEYS, WORKERS, Word, WordsFault};
+use nb_lines::{Argument, CommandLine, Form, Given, MANY_KEYS, ProgramFault, WORKERS, WordsFault};
 use std::alloc::Global;
 
 /// How the jobs are to be taken and printed.
@@ -18,7 +18,7 @@ pub(crate) struct Options {
 impl Options {
     /// A set that begins small, and grows where a key isn't within a few slots of its home, up to
     /// a table with room for so many keys and more.
-    pub(crate) fn shape(&self) -> Result<Shape, Fault> {
+    pub(crate) fn shape(&self) -> Result<Shape, ProgramFault> {
         Ok(Shape::for_keys(self.keys, self.workers)?)
     }
 }
@@ -42,18 +42,18 @@ pub(crate) const LINE: CommandLine = CommandLine {
     name: "nb_dedup",
     about: "Prints each number of standard input once, like sort -nu",
     more: Some(MORE),
-    words: &[
-        Word {
+    arguments: &[
+        Argument {
             form: Form::Number(WORKERS, "N"),
             default: Some("4"),
             help: "How many threads take numbers; 1 to 8",
         },
-        Word {
+        Argument {
             form: Form::Flag("--who"),
             default: None,
             help: "Also print which worker took each number; workers are numbered from 1",
         },
-        Word {
+        Argument {
             form: Form::Number(MANY_KEYS, "N"),
             default: Some("349525"),
             help: "Make room for at least N different numbers; 1 to 178956970",

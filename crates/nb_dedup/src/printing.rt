@@ -1,7 +1,7 @@
 //! Printing: a line for each job.
 
 use crate::taking::Job;
-use nb_lines::Fault;
+use nb_lines::ProgramFault;
 use std::alloc::Global;
 use std::io;
 use std::io::{BufWriter, Write};
@@ -12,13 +12,13 @@ pub(crate) fn print<W: Write + Drop>(
     writer: W,
     jobs: &[Job],
     tells_who: bool,
-) -> Result<(), Fault> {
+) -> Result<(), ProgramFault> {
     let Ok(mut writer) = BufWriter::new(alloc, writer) else {
-        return Err(Fault::OutOfMemory);
+        return Err(ProgramFault::OutOfMemory);
     };
     match print_to(&mut writer, jobs, tells_who) {
         Ok(()) => Ok(()),
-        Err(_) => Err(Fault::Write),
+        Err(_) => Err(ProgramFault::Write),
     }
 }
 

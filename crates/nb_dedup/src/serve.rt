@@ -3,7 +3,7 @@
 use crate::options::{LINE, options_of};
 use crate::printing::print;
 use crate::taking::take_all;
-use nb_lines::{Fault, Progress};
+use nb_lines::{ProgramFault, ProgressMeter};
 use std::io;
 use std::io::Read;
 use std::rt::Env;
@@ -11,7 +11,7 @@ use std::sync::Wait;
 use std::thread::Threads;
 
 /// Serves a process: does what its words ask for.
-pub(crate) fn serve<R, I>(rt: &R, reader: I, progress: Progress) -> Result<(), Fault>
+pub(crate) fn serve<R, I>(rt: &R, reader: I, progress: ProgressMeter) -> Result<(), ProgramFault>
 where
     R: Env + Threads + Sync + Wait + Print + Eprint + AllocGlobal,
     I: Read + Send + Drop,

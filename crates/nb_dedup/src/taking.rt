@@ -6,7 +6,7 @@ ghost use Rattle.nb_set.specs.Sets.{HasReplied};
 
 use crate::options::Options;
 use nb_core::{Key, MAX_SEATS, OutOfMemory, Shape};
-use nb_lines::{Block, Fault, Input, Progress, Stop, number_of, read_key};
+use nb_lines::{Block, Input, ProgramFault, ProgressMeter, Stop, number_of, read_key};
 use nb_set::{Full, Handle};
 use std::alloc::Global;
 use std::io::Read;
@@ -35,8 +35,8 @@ pub(crate) fn take_all<R, I>(
     alloc: Global,
     options: &Options,
     reader: I,
-    progress: Progress,
-) -> Result<Vec<Job>, Fault>
+    progress: ProgressMeter,
+) -> Result<Vec<Job>, ProgramFault>
 where
     R: Threads + Sync + Wait + Eprint,
     I: Read + Send + Drop,
@@ -67,7 +67,7 @@ fn all_work<R: Threads + Sync + Wait + Eprint, I: Read + Send + Drop>(
     rt: &R,
     alloc: Global,
     input: &Mutex<Input<I>>,
-    progress: Progress,
+    progress: ProgressMeter,
     workers: &mut [Worker],
 ) {
     thread::for_each_mut(
@@ -83,7 +83,7 @@ fn work<R: Wait + Eprint, I: Read + Drop>(
     rt: &R,
     alloc: Global,
     input: &Mutex<Input<I>>,
-    progress: Progress,
+    progress: ProgressMeter,
     worker: &mut Worker,
 ) {
     if let Err(stop) = take_blocks(rt, alloc, input, progress, worker) {
@@ -96,7 +96,7 @@ fn take_blocks<R: Wait + Eprint, I: Read + Drop>(
     rt: &R,
     alloc: Global,
     input: &Mutex<Input<I>>,
-    progress: Progress,
+    progress: ProgressMeter,
     worker: &mut Worker,
 ) -> Result<(), Stop> {
     let mut block = Block::new(alloc)?;
@@ -144,7 +144,7 @@ fn take<R: Wait>(rt: &R, worker: &mut Worker, key: Key) -> Result<(), Stop>
 }
 
 /// The jobs that the workers took, ascending.
-fn jobs_of(alloc: Global, workers: &[Worker]) -> Result<Vec<Job>, Fault> {
+fn jobs_of(alloc: Global, workers: &[Worker]) -> Result<Vec<Job>, ProgramFault> {
     let mut jobs = Vec::new(alloc);
     for (place, worker) in workers.iter().enumerate() {
         for number in worker.taken.iter() {

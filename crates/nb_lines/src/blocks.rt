@@ -1,6 +1,6 @@
 //! An input that many workers read: each takes a block of whole lines, and then the next one.
 
-use crate::faults::{Cause, Fault, Stop};
+use crate::faults::{Cause, ProgramFault, Stop};
 use crate::lines::Lines;
 use crate::progress::Done;
 use nb_core::OutOfMemory;
@@ -12,14 +12,14 @@ pub const BLOCK: usize = 1 << 18;
 
 /// Where a line stands: in which block, and how many lines of the block come before it.
 #[derive(Clone, Copy, Debug, PartialEq, Eq)]
-pub struct Place {
+pub struct LinePlace {
     block: usize,
     line: u64,
 }
 
-impl Place {
+impl LinePlace {
     /// Whether this line comes before the other.
-    fn is_before(self, other: Place) -> bool {
+    fn is_before(self, other: LinePlace) -> bool {
         self.block < other.block || (self.block == other.block && self.line < other.line)
     }
 }
@@ -64,7 +64,7 @@ impl Block {
     /// What is wrong with the line that so many lines of the block come before.
     pub fn stop_at(&self, line: u64, cause: Cause) -> Stop {
         let block = self.number;
-        Stop::Line(Place { block, line }, cause)
+        Stop::Line(LinePlace { block, line }, cause)
     }
 
     /// Keeps how many lines were read. The next lines' numbers are counted from it.
@@ -171,17 +171,17 @@ impl<R: Read + Drop> Input<R> {
 
     /// How many lines there were, or the first fault. No worker has a block any more that it
     /// hasn't given back.
-    pub fn finish(self) -> Result<u64, Fault> {
+    pub fn finish(self) -> Result<u64, ProgramFault> {
         match self.stopped {
             None => Ok(self.lines_before(self.lines.len())),
-            Some(Stop::Read) => Err(Fault::Read),
+            Some(Stop::Read) => Err(ProgramFault::Read),
             Some(Stop::Line(place, cause)) => {
                 let before = self.lines_before(place.block).wrapping_add(place.line);
-                Err(Fault::Line(before.wrapping_add(1), cause))
+                Err(ProgramFault::Line(before.wrapping_add(1), cause))
             }
-            Some(Stop::Full) => Err(Fault::Full),
-            Some(Stop::TooOften) => Err(Fault::TooOften),
-            Some(Stop::OutOfMemory) => Err(Fault::OutOfMemory),
+            Some(Stop::Full) => Err(ProgramFault::Full),
+            Some(Stop::TooOften) => Err(ProgramFault::TooOften),
+            Some(Stop::OutOfMemory) => Err(ProgramFault::OutOfMemory),
         }
     }
 

@@ -1,6 +1,6 @@
 //! The words of the command line, and what a process tells at its end.
 
-use crate::faults::{Fault, WordsFault};
+use crate::faults::{ProgramFault, WordsFault};
 use crate::numbers::NumberWord;
 use clap::error::ErrorKind;
 use clap::{Arg, ArgAction, ArgMatches, Command};
@@ -29,8 +29,8 @@ fn words_of<R: Env + AllocGlobal>(rt: &R) -> Result<Vec<String>, WordsFault> {
     Ok(words)
 }
 
-/// What a word of the command line is called, with its dashes where it is an option, and what
-/// stands behind its name.
+/// What an argument is called, with its dashes where it is an option, and what stands behind its
+/// name.
 #[derive(Clone, Copy)]
 pub enum Form {
     /// `--NAME` alone.
@@ -43,16 +43,16 @@ pub enum Form {
     Place(&'static str),
 }
 
-/// A word that a command line may have, and what the help tells of it.
+/// An argument that a command line may have, and what the help tells of it.
 #[derive(Clone, Copy)]
-pub struct Word {
+pub struct Argument {
     pub form: Form,
     /// What holds where it isn't given.
     pub default: Option<&'static str>,
     pub help: &'static str,
 }
 
-impl Word {
+impl Argument {
     fn name(&self) -> &'static str {
         match self.form {
             Form::Number(number, _) => number.name,
@@ -65,7 +65,7 @@ impl Word {
         self.name().trim_start_matches('-')
     }
 
-    /// The word as clap has it.
+    /// The argument as clap has it.
     fn arg<'a>(&self, alloc: Global) -> Arg<'a> {
         let arg = Arg::new(alloc, self.id()).help(self.help);
         let arg = match self.form {
@@ -100,7 +100,7 @@ pub struct CommandLine {
     pub about: &'static str,
     /// What the help tells behind the options.
     pub more: Option<&'static str>,
-    pub words: &'static [Word],
+    pub arguments: &'static [Argument],
 }
 
 impl CommandLine {
@@ -122,20 +122,20 @@ impl CommandLine {
         if let Some(more) = self.more {
             command = command.after_help(more);
         }
-        for word in self.words {
-            command = command.arg(word.arg(alloc))?;
+        for argument in self.arguments {
+            command = command.arg(argument.arg(alloc))?;
         }
         Ok(command)
     }
 
-    /// What clap's matches have of each word.
+    /// What clap's matches have of each argument.
     fn found_in(&self, alloc: Global, matches: &ArgMatches<'_>) -> Result<Given, WordsFault> {
         let mut found = Vec::new(alloc);
-        for word in self.words {
-            if let Some(text) = word.text_of(matches) {
+        for argument in self.arguments {
+            if let Some(text) = argument.text_of(matches) {
                 let text = String::from_str(alloc, text)?;
                 found.push(Found {
-                    name: word.name(),
+                    name: argument.name(),
                     text,
                 })?;
             }
@@ -144,7 +144,7 @@ impl CommandLine {
     }
 }
 
-/// A word that was given, or its default.
+/// An argument that was given, or its default.
 #[derive(Drop)]
 struct Found {
     name: &'static str,
@@ -158,7 +158,7 @@ pub struct Given {
 }
 
 impl Given {
-    /// The text behind a word's name, or its default. There is none where neither is.
+    /// The text behind an argument's name, or its default. There is none where neither is.
     pub fn text(&self, name: &str) -> Option<&str> {
         for found in self.found.iter() {
             if found.name == name {
@@ -234,7 +234,7 @@ fn complaint_of(alloc: Global, error: &clap::Error) -> Result<String, OutOfMemor
 pub fn answer<R: Print + Eprint>(rt: &R, name: &str, text: &str) -> u8 {
     match print!(rt; "{text}") {
         Ok(()) => 0,
-        Err(_) => complain(rt, name, &Fault::Write, Fault::Write.status()),
+        Err(_) => complain(rt, name, &ProgramFault::Write, ProgramFault::Write.status()),
     }
 }
 
@@ -245,10 +245,10 @@ pub fn complain<R: Eprint, F: Display>(rt: &R, name: &str, fault: &F, status: u8
 }
 
 /// Writes what the words ask for, or says what went wrong, and answers the exit status.
-pub fn end_of<R: Print + Eprint>(rt: &R, name: &str, ended: Result<(), Fault>) -> u8 {
+pub fn end_of<R: Print + Eprint>(rt: &R, name: &str, ended: Result<(), ProgramFault>) -> u8 {
     match ended {
         Ok(()) => 0,
-        Err(Fault::Words(WordsFault::Answered(text))) => answer(rt, name, text.as_str()),
+        Err(ProgramFault::Words(WordsFault::Answered(text))) => answer(rt, name, text.as_str()),
         Err(fault) => {
             let status = fault.status();
             complain(rt, name, &fault, status)

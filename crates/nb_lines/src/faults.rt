@@ -1,7 +1,7 @@
 //! Why a program ends early, and what is said of it.
 ghost use Rattle.std.specs.Prelude.{◌≡◌};
 
-use crate::blocks::Place;
+use crate::blocks::LinePlace;
 use nb_core::{DigitsFault, OutOfMemory, RangeFault, ShapeFault};
 use std::alloc::AllocFailed;
 use std::io;
@@ -59,7 +59,7 @@ impl From<RangeFault> for Cause {
 pub enum Stop {
     Read,
     /// A line is at fault.
-    Line(Place, Cause),
+    Line(LinePlace, Cause),
     /// There is no room for another number.
     Full,
     /// A number comes more often than can be counted.
@@ -128,7 +128,7 @@ impl<T: Drop> From<AllocFailed<T>> for WordsFault {
 
 /// Why a program ends with another status than 0, or with its help or its version.
 #[derive(Debug, Drop, Error)]
-pub enum Fault {
+pub enum ProgramFault {
     #[error("{0}")]
     Words(WordsFault),
     /// No map is of the sizes that are asked for. The ranges of the options see that this never
@@ -155,41 +155,41 @@ pub enum Fault {
     OutOfMemory,
 }
 
-impl Fault {
+impl ProgramFault {
     /// The exit status.
     pub fn status(&self) -> u8 {
         match self {
-            Fault::Words(fault) => fault.status(),
-            Fault::Read | Fault::Write => 1,
-            Fault::Line(..) => 2,
-            Fault::Usage => 3,
-            Fault::OutOfMemory => 4,
-            Fault::Full | Fault::Crowded | Fault::TooOften => 5,
-            Fault::Unshown => 6,
+            ProgramFault::Words(fault) => fault.status(),
+            ProgramFault::Read | ProgramFault::Write => 1,
+            ProgramFault::Line(..) => 2,
+            ProgramFault::Usage => 3,
+            ProgramFault::OutOfMemory => 4,
+            ProgramFault::Full | ProgramFault::Crowded | ProgramFault::TooOften => 5,
+            ProgramFault::Unshown => 6,
         }
     }
 }
 
-impl From<WordsFault> for Fault {
-    fn from(fault: WordsFault) -> Fault {
-        Fault::Words(fault)
+impl From<WordsFault> for ProgramFault {
+    fn from(fault: WordsFault) -> ProgramFault {
+        ProgramFault::Words(fault)
     }
 }
 
-impl From<ShapeFault> for Fault {
-    fn from(_fault: ShapeFault) -> Fault {
-        Fault::Usage
+impl From<ShapeFault> for ProgramFault {
+    fn from(_fault: ShapeFault) -> ProgramFault {
+        ProgramFault::Usage
     }
 }
 
-impl From<OutOfMemory> for Fault {
-    fn from(_fault: OutOfMemory) -> Fault {
-        Fault::OutOfMemory
+impl From<OutOfMemory> for ProgramFault {
+    fn from(_fault: OutOfMemory) -> ProgramFault {
+        ProgramFault::OutOfMemory
     }
 }
 
-impl<T: Drop> From<AllocFailed<T>> for Fault {
-    fn from(_refused: AllocFailed<T>) -> Fault {
-        Fault::OutOfMemory
+impl<T: Drop> From<AllocFailed<T>> for ProgramFault {
+    fn from(_refused: AllocFailed<T>) -> ProgramFault {
+        ProgramFault::OutOfMemory
     }
 }

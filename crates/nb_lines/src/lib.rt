@@ -11,14 +11,14 @@ mod lines;
 mod numbers;
 mod progress;
 
-pub use blocks::{BLOCK, Block, Input, Place};
+pub use blocks::{BLOCK, Block, Input, LinePlace};
 pub use command_line::{
-    CommandLine, Form, Given, MANY_KEYS, VERSION, WORKERS, Word, answer, complain, end_of,
+    Argument, CommandLine, Form, Given, MANY_KEYS, VERSION, WORKERS, answer, complain, end_of,
     wrong_word,
 };
-pub use faults::{Cause, Fault, Stop, WordsFault};
+pub use faults::{Cause, ProgramFault, Stop, WordsFault};
 pub use keys::{key_of, number_of, read_key};
 pub use lines::Lines;
 pub use nb_core::read_number;
 pub use numbers::NumberWord;
-pub use progress::{Done, Progress, Seconds, size_of_input};
+pub use progress::{Done, ProgressMeter, Seconds, size_of_input};

@@ -25,25 +25,25 @@ impl Done {
     pub(crate) const NOTHING: Done = Done { lines: 0, bytes: 0 };
 }
 
-/// How progress is told.
+/// Tells progress, or nothing.
 #[derive(Clone, Copy)]
-pub struct Progress {
+pub struct ProgressMeter {
     is_told: bool,
     /// How many bytes the input has, where it tells.
     size: Option<u64>,
 }
 
-impl Progress {
+impl ProgressMeter {
     /// Nothing is told.
-    pub const NONE: Progress = Progress {
+    pub const NONE: ProgressMeter = ProgressMeter {
         is_told: false,
         size: None,
     };
 
     /// Progress is told if standard error is a terminal. The input has so many bytes, if that is
     /// known.
-    pub fn new(is_terminal: bool, size: Option<u64>) -> Progress {
-        Progress {
+    pub fn new(is_terminal: bool, size: Option<u64>) -> ProgressMeter {
+        ProgressMeter {
             is_told: is_terminal,
             size,
         }
@@ -95,14 +95,14 @@ fn percentage(part: u64, whole: u64) -> u64 {
 /// Progress of work that goes on for a time.
 #[derive(Clone, Copy)]
 pub struct Seconds {
-    progress: Progress,
+    progress: ProgressMeter,
     time: Duration,
     /// How many seconds were told.
     told: u64,
 }
 
 impl Seconds {
-    pub fn new(progress: Progress, time: Duration) -> Seconds {
+    pub fn new(progress: ProgressMeter, time: Duration) -> Seconds {
         Seconds {
             progress,
             time,

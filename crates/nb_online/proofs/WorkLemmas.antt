@@ -9,7 +9,7 @@ use Rattle.std.proofs.lemmas.Option.{get_or_from_slice_get, slice_get_within}
 use Rattle.nb_set.specs.Log.{Add, Call, Remove}
 use Rattle.nb_set.specs.Sets.{HasNoRoom, HasReplied, IsMine, SeatOf, SetOf}
 use Rattle.nb_set.proofs.Theorems.{logs_add_up}
-use Rattle.nb_online.specs.Working.{AreCounted, HasDoneRequests, HasStopped, call_of_request, has_come, has_gone}
+use Rattle.nb_online.specs.Working.{AreCounted, HasDoneRequests, HasRunOutOfRoom, call_of_request, has_come, has_gone}
 use Rattle.nb_online.specs.declared.part.Action.TheVariants.{Come}
 use Rattle.nb_online.specs.declared.part.Counts.{Counts}
 use Rattle.nb_online.specs.declared.part.Part.{Part}
@@ -191,7 +191,7 @@ pub stopped :
     → slice_get now.requests.items now.done ≡ Some request
     → request.action ≡ Come → HasNoRoom set request.key between after
     → next.requests ≡ now.requests → next.done ≡ now.done → next.counts ≡ now.counts
-    → HasStopped set first next before after
+    → HasRunOutOfRoom set first next before after
 stopped set first now next before between after request done at come full requests same counts =
     record {
       between = between;

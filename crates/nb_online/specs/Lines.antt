@@ -10,8 +10,8 @@ abbrev pub IsWordWith : (word : List ℕ) → (key : ℕ) → (text : List ℕ) 
 IsWordWith word key text =
     (digits : List ℕ) × (text ≡ word ++ digits) × (number_spelled digits ≡ Some (number_at key))
 
--- The text says this.
-abbrev pub Says : (text : List ℕ) → Line → Type 0
-Says text (On key) = IsWordWith (codes "on ") key text
-Says text (Off key) = IsWordWith (codes "off ") key text
-Says text Count = text ≡ codes "count"
+-- The text spells this line.
+abbrev pub Spells : (text : List ℕ) → Line → Type 0
+Spells text (On key) = IsWordWith (codes "on ") key text
+Spells text (Off key) = IsWordWith (codes "off ") key text
+Spells text Count = text ≡ codes "count"

@@ -48,7 +48,7 @@ pub record HasDoneRequests (part part' : Part) (before after : SeatOf) : Type 0 
 
 -- It has done requests in this way up to one by which a key comes, and for this key the set has no
 -- room.
-pub record HasStopped (set : SetOf) (part part' : Part) (before after : SeatOf) : Type 0 where
+pub record HasRunOutOfRoom (set : SetOf) (part part' : Part) (before after : SeatOf) : Type 0 where
   pub between : SeatOf
   pub done : HasDoneRequests part part' before between
   pub key : ℕ

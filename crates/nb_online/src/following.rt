@@ -8,7 +8,7 @@ use crate::renewing::{must_renew, online, renewed};
 use crate::run::Run;
 use crate::stream::Stream;
 use nb_core::Shape;
-use nb_lines::{Fault, Lines};
+use nb_lines::{Lines, ProgramFault};
 use nb_set::Handle;
 use std::alloc::Global;
 use std::io::{Read, Write};
@@ -22,7 +22,7 @@ pub(crate) fn follow<R, I, W>(
     shape: Shape,
     reader: I,
     writer: W,
-) -> Result<(), Fault>
+) -> Result<(), ProgramFault>
 where
     R: Threads + Sync + Wait + Eprint,
     I: Read + Drop,
@@ -49,7 +49,7 @@ fn do_lines<R, W>(
     run: &mut Run<W>,
     handle: Handle,
     lines: Lines<'_>,
-) -> Result<Handle, Fault>
+) -> Result<Handle, ProgramFault>
 where
     R: Threads + Sync + Wait + Eprint,
     W: Write + Drop,
@@ -59,7 +59,7 @@ where
     let mut handle = handle;
     for text in lines {
         run.lines = run.lines.wrapping_add(1);
-        match read_line(text).map_err(|cause| Fault::Line(run.lines, cause))? {
+        match read_line(text).map_err(|cause| ProgramFault::Line(run.lines, cause))? {
             Line::On(key) => run.keep(key, Action::Come)?,
             Line::Off(key) => run.keep(key, Action::Go)?,
             Line::Count => {
@@ -78,7 +78,7 @@ fn make_calls<R, W>(
     alloc: Global,
     run: &mut Run<W>,
     handle: Handle,
-) -> Result<Handle, Fault>
+) -> Result<Handle, ProgramFault>
 where
     R: Threads + Sync + Wait + Eprint,
     W: Write + Drop,
@@ -105,7 +105,7 @@ fn renew_in_time<R, W>(
     alloc: Global,
     run: &mut Run<W>,
     handle: &mut Handle,
-) -> Result<(), Fault>
+) -> Result<(), ProgramFault>
 where
     R: Threads + Sync + Wait + Eprint,
     W: Write + Drop,
@@ -116,7 +116,7 @@ where
         return Ok(());
     }
     match renew(rt, alloc, run, handle) {
-        Err(Fault::OutOfMemory) => {
+        Err(ProgramFault::OutOfMemory) => {
             let lines = run.lines;
             let _ = eprintln!(rt; "nb_online: not renewed at line {lines}: out of memory");
             Ok(())
@@ -131,7 +131,7 @@ fn renew<R: Eprint, W: Write + Drop>(
     alloc: Global,
     run: &mut Run<W>,
     handle: &mut Handle,
-) -> Result<(), Fault>
+) -> Result<(), ProgramFault>
     requires whole { IsWhole handle.old }
     ensures whole { IsWhole handle.new }
 {

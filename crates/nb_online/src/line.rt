@@ -2,7 +2,7 @@
 ghost use Rattle.std.specs.Prelude.{◌≡◌, ◌++◌, ◌≤◌, ℕ, IfOk, IsOk, List, Some, codes};
 ghost use Rattle.nb_core.specs.Digits.{number_spelled};
 ghost use Rattle.nb_core.specs.declared.numbers.TheConstants.{KEY_MAX};
-ghost use Rattle.nb_online.specs.Lines.{Says};
+ghost use Rattle.nb_online.specs.Lines.{Spells};
 
 use nb_core::Key;
 use nb_lines::{Cause, read_key};
@@ -20,7 +20,7 @@ pub(crate) enum Line {
 
 /// What a line says: `on KEY`, `off KEY` or `count`.
 pub(crate) fn read_line(text: &[u8]) -> Result<Line, Cause>
-    ensures said { IfOk result (Says text.now) }
+    ensures said { IfOk result (Spells text.now) }
     ensures on { (digits : List ℕ) (number : ℕ) → text.now ≡ codes "on " ++ digits
         → number_spelled digits ≡ Some number → number ≤ KEY_MAX → IsOk result }
     ensures off { (digits : List ℕ) (number : ℕ) → text.now ≡ codes "off " ++ digits

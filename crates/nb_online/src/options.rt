@@ -6,7 +6,7 @@ ghost use Rattle.nb_online.specs.declared.stream.TheConstants.{LINES};
 
 use crate::stream::LINES;
 use nb_core::Shape;
-use nb_lines::{CommandLine, Fault, Form, Given, NumberWord, WORKERS, Word, WordsFault};
+use nb_lines::{Argument, CommandLine, Form, Given, NumberWord, ProgramFault, WORKERS, WordsFault};
 use std::alloc::Global;
 
 /// For how many keys that are online at the same time there may have to be room.
@@ -32,7 +32,7 @@ pub(crate) struct Options {
 impl Options {
     /// A set that begins small and grows, up to a table of which a third has room for so many keys
     /// and for all that two blocks bring.
-    pub(crate) fn shape(&self) -> Result<Shape, Fault>
+    pub(crate) fn shape(&self) -> Result<Shape, ProgramFault>
         ensures room { IfOk result (λ shape.
             3 * (self.now.keys + 2 * LINES) ≤ size_of shape (generations_of shape - 1)) }
     {
@@ -65,13 +65,13 @@ pub(crate) const LINE: CommandLine = CommandLine {
     name: "nb_online",
     about: "Tells how many keys are online, of a stream that may never end",
     more: Some(MORE),
-    words: &[
-        Word {
+    arguments: &[
+        Argument {
             form: Form::Number(WORKERS, "N"),
             default: Some("4"),
             help: "How many threads make the calls; 1 to 8",
         },
-        Word {
+        Argument {
             form: Form::Number(KEYS, "N"),
             default: Some("100000"),
             help: "Make room for at least N keys online at the same time; 1 to 80000000",

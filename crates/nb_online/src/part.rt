@@ -55,7 +55,7 @@ pub(crate) struct Part {
 }
 
 impl Part {
-    ghost use Rattle.nb_online.specs.Working.{HasDoneRequests, HasStopped};
+    ghost use Rattle.nb_online.specs.Working.{HasDoneRequests, HasRunOutOfRoom};
 
     /// A part with nothing to do.
     pub(crate) fn new(alloc: Global) -> Part {
@@ -93,7 +93,7 @@ impl Part {
         ensures done { OnOk result (HasDoneRequests self.old self.new
             handle.old.seat handle.new.seat) }
         ensures all { OnOk result (self.new.done ≡ length self.new.requests.items) }
-        ensures stopped { OnErr result (HasStopped handle.old.set self.old self.new
+        ensures stopped { OnErr result (HasRunOutOfRoom handle.old.set self.old self.new
             handle.old.seat handle.new.seat) }
     {
         handle.known();

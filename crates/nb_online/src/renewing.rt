@@ -9,7 +9,7 @@ ghost use Rattle.nb_set.specs.Settling.{HaveSettled};
 ghost use Rattle.nb_set.specs.Sets.{shape_of};
 
 use nb_core::Shape;
-use nb_lines::Fault;
+use nb_lines::ProgramFault;
 use nb_set::{Handle, Occupancy, RenewFault, SettleFault};
 use std::alloc::Global;
 
@@ -25,24 +25,24 @@ pub(crate) fn must_renew(found: Occupancy) -> bool
 }
 
 /// How many keys are online. No worker is at work.
-pub(crate) fn online(alloc: Global, handle: &mut Handle) -> Result<u64, Fault>
+pub(crate) fn online(alloc: Global, handle: &mut Handle) -> Result<u64, ProgramFault>
     requires whole { IsWhole handle.old }
     ensures whole { IsWhole handle.new }
     ensures settled { IfOk result (HaveSettled handle.old.set (seats_of handle.old)
         (seats_of handle.new)) }
     ensures set { IsSameSet handle.old handle.new }
-    ensures refused { IfErr result (λ fault. fault ≡ Fault.OutOfMemory) }
+    ensures refused { IfErr result (λ fault. fault ≡ ProgramFault.OutOfMemory) }
 {
     match handle.settle(alloc) {
         Ok(size) => Ok(size),
-        Err(SettleFault::OutOfMemory) => Err(Fault::OutOfMemory),
+        Err(SettleFault::OutOfMemory) => Err(ProgramFault::OutOfMemory),
         Err(SettleFault::NotAll) => unreachable!(),
     }
 }
 
 /// Makes the set anew in its shape, and answers how many keys are online: the new set has just these.
 /// It is refused where they have more than two thirds of the last table.
-pub(crate) fn renewed(alloc: Global, handle: &mut Handle) -> Result<u64, Fault>
+pub(crate) fn renewed(alloc: Global, handle: &mut Handle) -> Result<u64, ProgramFault>
     requires whole { IsWhole handle.old }
     ensures whole { IsWhole handle.new }
     ensures renewed { IfOk result (λ size. (settled : HandleOf)
@@ -53,12 +53,12 @@ pub(crate) fn renewed(alloc: Global, handle: &mut Handle) -> Result<u64, Fault>
     let online = online(alloc, handle)?;
     let shape = *handle.shape();
     if is_crowded(online, shape) {
-        return Err(Fault::Crowded);
+        return Err(ProgramFault::Crowded);
     }
     match handle.renew(alloc, shape) {
         Ok(()) => Ok(online),
-        Err(RenewFault::OutOfMemory) => Err(Fault::OutOfMemory),
-        Err(RenewFault::Full) => Err(Fault::Crowded),
+        Err(RenewFault::OutOfMemory) => Err(ProgramFault::OutOfMemory),
+        Err(RenewFault::Full) => Err(ProgramFault::Crowded),
         Err(RenewFault::NotAll) => unreachable!(),
     }
 }

@@ -6,7 +6,7 @@ ghost use Rattle.nb_set.specs.Handles.{IsWhole, KeepsRest};
 
 use crate::part::{Action, Counts, Part, Request};
 use nb_core::{Key, OutOfMemory};
-use nb_lines::Fault;
+use nb_lines::ProgramFault;
 use nb_set::Handle;
 use std::alloc::Global;
 use std::io::{BufWriter, Write};
@@ -28,13 +28,13 @@ pub(crate) struct Run<W: Write + Drop> {
 }
 
 impl<W: Write + Drop> Run<W> {
-    pub(crate) fn new(alloc: Global, workers: usize, writer: W) -> Result<Run<W>, Fault> {
+    pub(crate) fn new(alloc: Global, workers: usize, writer: W) -> Result<Run<W>, ProgramFault> {
         let mut parts = Vec::with_capacity(alloc, workers)?;
         for _worker in 0..workers {
             parts.push(Mutex::new(Part::new(alloc)))?;
         }
         let Ok(writer) = BufWriter::new(alloc, writer) else {
-            return Err(Fault::OutOfMemory);
+            return Err(ProgramFault::OutOfMemory);
         };
         Ok(Run {
             parts,
@@ -96,10 +96,10 @@ impl<W: Write + Drop> Run<W> {
     }
 
     /// Prints how many keys are online, at once.
-    pub(crate) fn print_count(&mut self, online: u64) -> Result<(), Fault> {
+    pub(crate) fn print_count(&mut self, online: u64) -> Result<(), ProgramFault> {
         match self.write_count(online) {
             Ok(()) => Ok(()),
-            Err(_) => Err(Fault::Write),
+            Err(_) => Err(ProgramFault::Write),
         }
     }
 
@@ -109,10 +109,10 @@ impl<W: Write + Drop> Run<W> {
     }
 
     /// Prints what came of the run.
-    pub(crate) fn print_end(&mut self, online: u64) -> Result<(), Fault> {
+    pub(crate) fn print_end(&mut self, online: u64) -> Result<(), ProgramFault> {
         match self.write_end(online) {
             Ok(()) => Ok(()),
-            Err(_) => Err(Fault::Write),
+            Err(_) => Err(ProgramFault::Write),
         }
     }
 

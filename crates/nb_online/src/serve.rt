@@ -2,7 +2,7 @@
 
 use crate::following::follow;
 use crate::options::{LINE, options_of};
-use nb_lines::Fault;
+use nb_lines::ProgramFault;
 use std::io;
 use std::io::Read;
 use std::rt::Env;
@@ -10,7 +10,7 @@ use std::sync::Wait;
 use std::thread::Threads;
 
 /// Serves a process: does what its words ask for.
-pub(crate) fn serve<R, I>(rt: &R, reader: I) -> Result<(), Fault>
+pub(crate) fn serve<R, I>(rt: &R, reader: I) -> Result<(), ProgramFault>
 where
     R: Env + Threads + Sync + Wait + Print + Eprint + AllocGlobal,
     I: Read + Drop,

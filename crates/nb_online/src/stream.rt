@@ -1,6 +1,6 @@
 //! The stream: blocks of the lines that are there.
 
-use nb_lines::{Cause, Fault, Lines};
+use nb_lines::{Cause, Lines, ProgramFault};
 use std::alloc::Global;
 use std::io;
 use std::io::{BufRead, BufReader, ErrorKind, Read};
@@ -22,7 +22,7 @@ pub(crate) struct Stream<I> {
 }
 
 impl<I: Read + Drop> Stream<I> {
-    pub(crate) fn new(alloc: Global, reader: I) -> Result<Stream<I>, Fault> {
+    pub(crate) fn new(alloc: Global, reader: I) -> Result<Stream<I>, ProgramFault> {
         Ok(Stream {
             reader: BufReader::with_capacity(alloc, AHEAD, reader).map_err(fault_of)?,
             block: Vec::with_capacity(alloc, 2 * AHEAD)?,
@@ -36,11 +36,11 @@ impl<I: Read + Drop> Stream<I> {
 
     /// Takes the next block, where the blocks before it had so many lines. It answers whether there
     /// is one.
-    pub(crate) fn refill(&mut self, lines: u64) -> Result<bool, Fault> {
+    pub(crate) fn refill(&mut self, lines: u64) -> Result<bool, ProgramFault> {
         self.block.clear();
         self.wait_for_line().map_err(fault_of)?;
         if self.block.len() == AHEAD && self.block.last() != Some(&b'\n') {
-            return Err(Fault::Line(lines.wrapping_add(1), Cause::TooLong));
+            return Err(ProgramFault::Line(lines.wrapping_add(1), Cause::TooLong));
         }
         self.take_lines()?;
         Ok(!self.block.is_empty())
@@ -53,7 +53,7 @@ impl<I: Read + Drop> Stream<I> {
     }
 
     /// Takes the lines that were read ahead.
-    fn take_lines(&mut self) -> Result<(), Fault> {
+    fn take_lines(&mut self) -> Result<(), ProgramFault> {
         let there = self.reader.buffer();
         let Some(last) = there.iter().rposition(|byte| *byte == b'\n') else {
             return Ok(());
@@ -66,9 +66,9 @@ impl<I: Read + Drop> Stream<I> {
 }
 
 /// What a read that fails comes to.
-fn fault_of(error: io::Error) -> Fault {
+fn fault_of(error: io::Error) -> ProgramFault {
     match error.kind() {
-        ErrorKind::OutOfMemory => Fault::OutOfMemory,
-        _ => Fault::Read,
+        ErrorKind::OutOfMemory => ProgramFault::OutOfMemory,
+        _ => ProgramFault::Read,
     }
 }

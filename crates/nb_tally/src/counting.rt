@@ -7,7 +7,7 @@ ghost use Rattle.nb_map.specs.Logs.{HasFound};
 
 use crate::options::Options;
 use nb_core::{Key, MAX_SEATS, Num};
-use nb_lines::{Block, Fault, Input, Progress, Stop, number_of, read_key};
+use nb_lines::{Block, Input, ProgramFault, ProgressMeter, Stop, number_of, read_key};
 use nb_map::{AddFault, Handle};
 use std::alloc::Global;
 use std::io::Read;
@@ -28,14 +28,14 @@ pub(crate) fn tally<R, I>(
     alloc: Global,
     options: &Options,
     reader: I,
-    progress: Progress,
-) -> Result<Vec<Count>, Fault>
+    progress: ProgressMeter,
+) -> Result<Vec<Count>, ProgramFault>
 where
     R: Threads + Sync + Wait + Eprint,
     I: Read + Send + Drop,
 {
     let Ok(mut handles) = Handle::open(alloc, options.shape()?)?.split_all(alloc) else {
-        return Err(Fault::OutOfMemory);
+        return Err(ProgramFault::OutOfMemory);
     };
     let input = Mutex::new(Input::new(alloc, reader));
     thread::for_each_mut(
@@ -58,7 +58,7 @@ fn work<R: Wait + Eprint, I: Read + Drop>(
     alloc: Global,
     input: &Mutex<Input<I>>,
     handle: &mut Handle,
-    progress: Progress,
+    progress: ProgressMeter,
 ) {
     if let Err(stop) = count_blocks(rt, alloc, input, handle, progress) {
         input.lock(rt).stop(stop);
@@ -71,7 +71,7 @@ fn count_blocks<R: Wait + Eprint, I: Read + Drop>(
     alloc: Global,
     input: &Mutex<Input<I>>,
     handle: &mut Handle,
-    progress: Progress,
+    progress: ProgressMeter,
 ) -> Result<(), Stop> {
     let mut block = Block::new(alloc)?;
     for _ in 0..u64::MAX {
@@ -113,7 +113,7 @@ fn count_one<R: Wait>(rt: &R, handle: &mut Handle, key: Key) -> Result<(), Stop>
 }
 
 /// All counts, by a walk over the map. No other handle writes any more, so it shows all of it.
-fn counts_of(alloc: Global, handle: Handle) -> Result<Vec<Count>, Fault> {
+fn counts_of(alloc: Global, handle: Handle) -> Result<Vec<Count>, ProgramFault> {
     let mut counts = Vec::new(alloc);
     for (key, times) in handle.walk() {
         counts.push(Count {

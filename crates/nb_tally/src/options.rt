@@ -1,7 +1,7 @@
 //! The words of the command line.
 
 use nb_core::{MAX_EXPONENT, Shape};
-use nb_lines::{CommandLine, Fault, Form, Given, NumberWord, WORKERS, Word, WordsFault};
+use nb_lines::{Argument, CommandLine, Form, Given, NumberWord, ProgramFault, WORKERS, WordsFault};
 use std::alloc::Global;
 
 /// The most slots of a table, and so the most different numbers that any map has room for.
@@ -33,7 +33,7 @@ pub(crate) struct Options {
 impl Options {
     /// One table, since it is known from the start how large it has to be: with twice as many
     /// slots as keys, where the map may have that many. So most keys stand at home.
-    pub(crate) fn shape(&self) -> Result<Shape, Fault> {
+    pub(crate) fn shape(&self) -> Result<Shape, ProgramFault> {
         let slots = self.keys.saturating_mul(2).clamp(4, SLOTS_MAX);
         let exponent = slots.next_power_of_two().trailing_zeros();
         let shape = Shape::of_tables(&[exponent])?;
@@ -57,18 +57,18 @@ pub(crate) const LINE: CommandLine = CommandLine {
     name: "nb_tally",
     about: "Counts how often each number occurs in standard input, like sort -n | uniq -c",
     more: Some(MORE),
-    words: &[
-        Word {
+    arguments: &[
+        Argument {
             form: Form::Number(WORKERS, "N"),
             default: Some("4"),
             help: "How many threads count; 1 to 8",
         },
-        Word {
+        Argument {
             form: Form::Number(TOP, "K"),
             default: None,
             help: "Print only the K most frequent numbers, the most frequent first; 1 to 4294967295",
         },
-        Word {
+        Argument {
             form: Form::Number(KEYS, "N"),
             default: Some("524288"),
             help: "Make room for at least N different numbers; 1 to 268435456",

@@ -1,7 +1,7 @@
 //! Printing, in the form of `uniq -c`.
 
 use crate::counting::Count;
-use nb_lines::Fault;
+use nb_lines::ProgramFault;
 use std::alloc::Global;
 use std::cmp::Reverse;
 use std::io;
@@ -24,13 +24,13 @@ pub(crate) fn print<W: Write + Drop>(
     alloc: Global,
     writer: W,
     counts: &[Count],
-) -> Result<(), Fault> {
+) -> Result<(), ProgramFault> {
     let Ok(mut writer) = BufWriter::new(alloc, writer) else {
-        return Err(Fault::OutOfMemory);
+        return Err(ProgramFault::OutOfMemory);
     };
     match print_to(&mut writer, counts) {
         Ok(()) => Ok(()),
-        Err(_) => Err(Fault::Write),
+        Err(_) => Err(ProgramFault::Write),
     }
 }
 
