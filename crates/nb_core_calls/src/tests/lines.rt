@@ -1,7 +1,7 @@
 //! Lines and their numbers, keys, and what two workers' blocks come to. `.ci/programs` has whole
 //! inputs of several blocks, reads that fail, and numbers of the command line.
 use nb_core::{KEY_MAX, Key, OutOfMemory, RangeFault};
-use nb_lines::{Block, Cause, Fault, Input, Lines, Stop, key_of, number_of, read_key};
+use nb_lines::{Block, Cause, Input, Lines, ProgramFault, Stop, key_of, number_of, read_key};
 use std::alloc::Global;
 use std::process::Abort;
 use std::test::Fail;
@@ -89,10 +89,10 @@ fn ascending(alloc: Global) -> Result<String, OutOfMemory> {
 }
 
 /// The line that has no number, or 0 where there is no room.
-fn line_of(ended: Result<u64, Fault>) -> Option<u64> {
+fn line_of(ended: Result<u64, ProgramFault>) -> Option<u64> {
     match ended {
-        Err(Fault::Line(line, Cause::NotANumber)) => Some(line),
-        Err(Fault::Full) => Some(0),
+        Err(ProgramFault::Line(line, Cause::NotANumber)) => Some(line),
+        Err(ProgramFault::Full) => Some(0),
         _ => None,
     }
 }

@@ -1,6 +1,6 @@
 //! What the faults of `nb_core` and of `nb_lines` say.
 use nb_core::{DigitsFault, OutOfMemory, PlainFault, RangeFault, ShapeFault};
-use nb_lines::{Cause, Fault, WordsFault};
+use nb_lines::{Cause, ProgramFault, WordsFault};
 use std::alloc::Global;
 use std::fmt::Display;
 use std::process::Abort;
@@ -72,16 +72,16 @@ fn fault_texts_of_lines(rt: HostRuntime) -> Result<(), Fail> {
 #[test]
 fn fault_texts_of_programs(rt: HostRuntime) -> Result<(), Fail> {
     let faults = [
-        Fault::Words(WordsFault::NoText),
-        Fault::Words(WordsFault::OutOfMemory),
-        Fault::Usage,
-        Fault::Read,
-        Fault::Write,
-        Fault::Line(12, Cause::TooLong),
-        Fault::Full,
-        Fault::TooOften,
-        Fault::Unshown,
-        Fault::OutOfMemory,
+        ProgramFault::Words(WordsFault::NoText),
+        ProgramFault::Words(WordsFault::OutOfMemory),
+        ProgramFault::Usage,
+        ProgramFault::Read,
+        ProgramFault::Write,
+        ProgramFault::Line(12, Cause::TooLong),
+        ProgramFault::Full,
+        ProgramFault::TooOften,
+        ProgramFault::Unshown,
+        ProgramFault::OutOfMemory,
     ];
     let text = "a word isn't text; --help tells more\nout of memory\nbad usage; --help tells more\n\
         read failed\nwrite failed\nline 12: line too long\n\
@@ -91,8 +91,8 @@ fn fault_texts_of_programs(rt: HostRuntime) -> Result<(), Fail> {
     let help = String::from_str(rt.alloc(), "a help\n")?;
     let wrong = String::from_str(rt.alloc(), "--top 0: not from 1 to 9")?;
     let faults = [
-        Fault::Words(WordsFault::Answered(help)),
-        Fault::Words(WordsFault::Wrong(wrong)),
+        ProgramFault::Words(WordsFault::Answered(help)),
+        ProgramFault::Words(WordsFault::Wrong(wrong)),
     ];
     let text = "a help\n\n--top 0: not from 1 to 9; --help tells more\n";
     assert_said(&rt, rt.alloc(), &faults, text)?;
