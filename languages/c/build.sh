@@ -2,7 +2,8 @@
 # Makes libraries that need no kit of libnb_ffi.a, which `rt lib` builds in crates/nb_ffi: build.sh [FOLDER] writes to FOLDER (out/
 # here by default) libsamvolip.so, with the file that it stands for, and libsamvolip.a. Both show the names of samvolip.h,
 # samvolip_map.h and samvolip_objects.h and no others. Beside the proved part they have their own memory for large tables
-# (src/memory.c), the map without an end (src/map.c) and its objects (src/objects.c). KIT is the kit's folder, CC the compiler.
+# (src/memory.c), and the map without an end (src/endless.h says which files) with its objects (src/objects.c). KIT is the kit's folder,
+# CC the compiler.
 set -euo pipefail
 here="$(cd "$(dirname "${BASH_SOURCE[0]}")" && pwd)"
 to="${1:-$here/out}"
@@ -13,10 +14,12 @@ version="$(cat "$top/VERSION")"
 name="libsamvolip.so.${version%%.*}"
 [ -f "$archive" ] || { echo "build.sh: first run rt lib in crates/nb_ffi" >&2; exit 1; }
 mkdir -p "$to"
-for source in memory map objects words; do
+sources=(memory map lanes gate renewal whole walks words objects)
+for source in "${sources[@]}"; do
     "${CC:-cc}" -std=gnu11 -O2 -fPIC -Wall -Wextra -I"$here/include" -c "$here/src/$source.c" -o "$to/$source.o"
 done
-parts=("@$here/src/links" "$to"/{memory,map,objects,words}.o -Wl,--whole-archive "$archive" -Wl,--no-whole-archive "$kit/c/liblibc_c.a")
+objects=("${sources[@]/%/.o}")
+parts=("@$here/src/links" "${objects[@]/#/$to/}" -Wl,--whole-archive "$archive" -Wl,--no-whole-archive "$kit/c/liblibc_c.a")
 
 printf '{ global: samvolip_*; local: *; };\n' > "$to/samvolip.map"
 rm -f "$to/libsamvolip.so" "$to/$name"
@@ -30,4 +33,4 @@ rm "$to/samvolip.map"
 "${OBJCOPY:-objcopy}" --wildcard --keep-global-symbol='samvolip_*' "$to/samvolip.o"
 rm -f "$to/libsamvolip.a"
 "${AR:-ar}" rcsD "$to/libsamvolip.a" "$to/samvolip.o"
-rm "$to"/{samvolip,memory,map,objects,words}.o
+rm "$to/samvolip.o" "${objects[@]/#/$to/}"

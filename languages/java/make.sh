@@ -13,9 +13,9 @@ old=
 new=
 for compiler in ${JAVA_HOME:+"$JAVA_HOME/bin/javac"} "$(command -v javac || true)" /usr/lib/jvm/*/bin/javac; do
     [ -x "$compiler" ] || continue
-    version="$("$compiler" --version 2> /dev/null | sed -n 's/^javac \([0-9]*\).*/\1/p')"
     home="$(dirname "$(dirname "$(readlink -f "$compiler")")")"
-    [ -x "$home/bin/jar" ] || continue
+    [ -x "$home/bin/jar" ] && [ -f "$home/release" ] || continue
+    version="$(sed -n 's/^JAVA_VERSION="\([0-9]*\).*/\1/p' "$home/release")"
     if [ "$version" = 17 ]; then old="${old:-$version $home}"; fi
     if [ "${version:-0}" -ge 22 ]; then new="${new:-$version $home}"; fi
 done
@@ -25,22 +25,23 @@ done
 
 made="$(mktemp -d)"
 trap 'rm -rf "$made"' EXIT
+short=(-J-XX:TieredStopAtLevel=1 -J-XX:+UseSerialGC) # it ends before the second compiler is worth its time
 mkdir "$made/base"
 printf 'Automatic-Module-Name: samvolip\nMulti-Release: true\n' > "$made/manifest"
 more=()
 if [ -n "$old" ]; then
-    "${old#* }/bin/javac" --add-modules jdk.incubator.foreign -nowarn -d "$made/base" "$here"/samvolip/*.java "$here"/java17/samvolip/*.java \
+    "${old#* }/bin/javac" "${short[@]}" --add-modules jdk.incubator.foreign -nowarn -d "$made/base" "$here"/samvolip/*.java "$here"/java17/samvolip/*.java \
         2> "$made/told" || { cat "$made/told" >&2; exit 1; }
     if [ -n "$new" ]; then
         # all of it against Java 22's API, although Native alone is another class than Java 17's
         mkdir "$made/new"
-        "${new#* }/bin/javac" --release 22 -d "$made/new" "$here"/samvolip/*.java "$here"/java22/samvolip/*.java
+        "${new#* }/bin/javac" "${short[@]}" --release 22 -d "$made/new" "$here"/samvolip/*.java "$here"/java22/samvolip/*.java
         more=(--release 22 -C "$made/new" samvolip/Native.class)
     fi
 else
-    "${new#* }/bin/javac" --release 22 -d "$made/base" "$here"/samvolip/*.java "$here"/java22/samvolip/*.java
+    "${new#* }/bin/javac" "${short[@]}" --release 22 -d "$made/base" "$here"/samvolip/*.java "$here"/java22/samvolip/*.java
 fi
 [ -z "$library" ] || cp "$library" "$made/base/samvolip/libsamvolip.so"
 tools="${new:-$old}"
-"${tools#* }/bin/jar" --create --file "$to/samvolip.jar" --manifest "$made/manifest" -C "$made/base" . ${more[@]+"${more[@]}"}
+"${tools#* }/bin/jar" "${short[@]}" --create --file "$to/samvolip.jar" --manifest "$made/manifest" -C "$made/base" . ${more[@]+"${more[@]}"}
 for java in "$old" "$new"; do [ -z "$java" ] || echo "$java"; done

@@ -16,54 +16,68 @@ if ! ls ${guava//:/ } > "$made/told" 2>&1; then
     guava=
 fi
 
+# what is compiled once serves each Java that comes after, and what runs for a moment isn't worth the second compiler
 "$here/make.sh" "$made" > "$made/javas"
+short=(-XX:TieredStopAtLevel=1 -XX:+UseSerialGC)
+read -r version home < "$made/javas"
+[ "$version" = 17 ] || version=22
+mkdir "$made/page"
+awk '/^    import samvolip\.\*;/ { shown = 1 } /^[^ ]/ { shown = 0 } shown { sub("^    ", ""); print }' "$here/../../docs/java.md" > "$made/page/Hello.java"
+sources=("$here"/tests/SamvolipTest.java "$here"/examples/*.java "$here"/bench/*.java "$made/page/Hello.java")
+[ -z "$guava" ] || sources+=("$here/tests/GuavaTest.java")
+"$home/bin/javac" "${short[@]/#/-J}" --release $version -cp "$made/samvolip.jar$guava" -d "$made/tests" "${sources[@]}"
+
+# the same jar with the library in it
+mkdir -p "$made/samvolip" "$made/temporary"
+cp "$library" "$made/samvolip/libsamvolip.so"
+cp "$made/samvolip.jar" "$made/whole.jar"
+"$home/bin/jar" --update --file "$made/whole.jar" -C "$made" samvolip/libsamvolip.so
+
+# says_two WHAT FLAG..: the first program of the page, so started
+says_two() {
+    local what="$1"
+    shift
+    "$home/bin/java" "${short[@]}" "$@" Hello > "$made/told" 2> "$made/errors" || { cat "$made/errors"; fail "the page's program fails $what"; }
+    [ "$(cat "$made/told")" = 2 ] || fail "the page's program prints something else $what"
+}
+# told LINE FLAG..: so started it ends, and says this
+told() {
+    local line="$1"
+    shift
+    if "$home/bin/java" "${short[@]}" "$@" Hello > "$made/told" 2>&1; then fail "Java $version finds a library where there is none"; fi
+    grep -qF -- "$line" "$made/told" || fail "Java $version doesn't tell: $line"
+}
+
 while read -r version home; do
-    flags=(--enable-native-access=ALL-UNNAMED -cp "$made/samvolip.jar:$made/$version")
-    if [ "$version" = 17 ]; then flags+=(--add-modules jdk.incubator.foreign); release=17; else release=22; fi
-    "$home/bin/javac" --release $release -cp "$made/samvolip.jar" -d "$made/$version" "$here"/tests/SamvolipTest.java "$here"/examples/*.java "$here"/bench/*.java
+    flags=(--enable-native-access=ALL-UNNAMED -cp "$made/samvolip.jar:$made/tests")
+    [ "$version" != 17 ] || flags+=(--add-modules jdk.incubator.foreign)
     "$home/bin/java" "${flags[@]}" -Dsamvolip="$library" SamvolipTest "$here" > "$made/told" 2>&1 || fail "the test of Java $version fails"
     "$home/bin/java" "${flags[@]}" -Dsamvolip="$(dirname "$library")" Visits > "$made/told" 2> "$made/errors" || { cat "$made/errors"; fail "the example of Java $version fails"; }
     diff "$here/examples/Visits.out" "$made/told" || fail "the example of Java $version prints something else"
 
-    "$home/bin/java" "${flags[@]}" -Dsamvolip="$library" Cost case 1 add false 20 > "$made/told" 2>&1 || fail "the benchmark of Java $version fails"
+    "$home/bin/java" "${short[@]}" "${flags[@]}" -Dsamvolip="$library" Cost case 1 add false 20 > "$made/told" 2>&1 || fail "the benchmark of Java $version fails"
 
     if [ -n "$guava" ]; then
-        "$home/bin/javac" --release $release -cp "$made/samvolip.jar$guava" -d "$made/$version" "$here"/tests/GuavaTest.java
-        "$home/bin/java" "${flags[@]}" -cp "$made/samvolip.jar:$made/$version$guava" -Dsamvolip="$library" GuavaTest > "$made/told" 2> "$made/errors" \
+        "$home/bin/java" "${short[@]}" "${flags[@]}" -cp "$made/samvolip.jar:$made/tests$guava" -Dsamvolip="$library" GuavaTest > "$made/told" 2> "$made/errors" \
             || { cat "$made/errors"; fail "Guava's tests fail with Java $version"; }
         echo "Java $version: $(cat "$made/told")"
     fi
 
-    # the same with the library in the jar, which leaves no file behind
-    mkdir -p "$made/samvolip" "$made/temporary"
-    cp "$library" "$made/samvolip/libsamvolip.so"
-    cp "$made/samvolip.jar" "$made/whole.jar"
-    "$home/bin/jar" --update --file "$made/whole.jar" -C "$made" samvolip/libsamvolip.so
-    "$home/bin/java" "${flags[@]}" -cp "$made/whole.jar:$made/$version" -Djava.io.tmpdir="$made/temporary" Visits > "$made/told" 2> "$made/errors" \
-        || { cat "$made/errors"; fail "the example of Java $version fails with the library in the jar"; }
-    diff "$here/examples/Visits.out" "$made/told" || fail "the example of Java $version prints something else with the library in the jar"
+    # the library in the jar, which leaves no file behind; and the jar as a module
+    says_two "with the library in the jar" "${flags[@]}" -cp "$made/whole.jar:$made/tests" -Djava.io.tmpdir="$made/temporary"
     [ -z "$(ls "$made/temporary")" ] || fail "Java $version leaves files behind"
-
-    # the same with the jar as a module
-    modules=(-p "$made/samvolip.jar" --add-modules samvolip -cp "$made/$version" -Dsamvolip="$library")
+    modules=(-p "$made/samvolip.jar" --add-modules samvolip -cp "$made/tests" -Dsamvolip="$library")
     more=(--enable-native-access=samvolip)
     [ "$version" != 17 ] || more+=(--add-modules jdk.incubator.foreign)
-    "$home/bin/java" "${modules[@]}" "${more[@]}" Visits > "$made/told" 2> "$made/errors" || { cat "$made/errors"; fail "the example of Java $version fails with a module"; }
-    diff "$here/examples/Visits.out" "$made/told" || fail "the example of Java $version prints something else with a module"
+    says_two "with a module" "${modules[@]}" "${more[@]}"
 
     # what is told where something is missing: the library, a file that isn't one, the flags of Java 17
-    told() {
-        local line="$1"
-        shift
-        if "$home/bin/java" "$@" Visits > "$made/told" 2>&1; then fail "Java $version finds a library where there is none"; fi
-        grep -qF -- "$line" "$made/told" || fail "Java $version doesn't tell: $line"
-    }
     told "libsamvolip.so isn't found. Say where it is by -Dsamvolip=FILE" "${flags[@]}" -Djava.library.path=/none
     told "-Dsamvolip=/none is no libsamvolip.so that can be loaded" "${flags[@]}" -Dsamvolip=/none
-    told "the jar's libsamvolip.so can't be loaded from java.io.tmpdir" "${flags[@]}" -cp "$made/whole.jar:$made/$version" -Djava.io.tmpdir=/none
+    told "the jar's libsamvolip.so can't be loaded from java.io.tmpdir" "${flags[@]}" -cp "$made/whole.jar:$made/tests" -Djava.io.tmpdir=/none
     if [ "$version" = 17 ]; then
-        told "Java 17 has to be started with --add-modules" -cp "$made/samvolip.jar:$made/$version" -Dsamvolip="$library"
-        told "Java 17 has to be started with --add-modules" -cp "$made/samvolip.jar:$made/$version" --add-modules jdk.incubator.foreign \
+        told "Java 17 has to be started with --add-modules" -cp "$made/samvolip.jar:$made/tests" -Dsamvolip="$library"
+        told "Java 17 has to be started with --add-modules" -cp "$made/samvolip.jar:$made/tests" --add-modules jdk.incubator.foreign \
             --enable-native-access=java.logging -Dsamvolip="$library"
         told "--add-modules jdk.incubator.foreign --enable-native-access=samvolip" "${modules[@]}"
     fi

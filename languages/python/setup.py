@@ -7,6 +7,7 @@ beside the repository's source, or in the folder include beside that folder, as 
 import os
 import re
 import sys
+import sysconfig
 
 from setuptools import Extension, setup
 
@@ -14,6 +15,7 @@ HERE = os.path.dirname(os.path.abspath(__file__))
 LANGUAGES = os.path.dirname(HERE)
 LIB = os.environ.get("SAMVOLIP_LIB") or f"{LANGUAGES}/c/out"
 LIBRARY = f"{LIB}/libsamvolip.a"
+HAS_STABLE_ABI = not sysconfig.get_config_var("Py_GIL_DISABLED")  # one wheel for all versions; without a global lock one for each
 HEADERS = [f"{LIB}/../include", f"{LANGUAGES}/c/include"]
 
 
@@ -47,8 +49,8 @@ setup(
             # its names meet none of another copy of the library, and it stays where it is: threads end by it
             extra_link_args=["-Wl,--exclude-libs,ALL", "-Wl,-z,nodelete", "-lpthread"],
             depends=[LIBRARY],
-            py_limited_api=True,
+            py_limited_api=HAS_STABLE_ABI,
         )
     ],
-    options={"bdist_wheel": {"py_limited_api": "cp310"}},
+    options={"bdist_wheel": {"py_limited_api": "cp310"}} if HAS_STABLE_ABI else {},
 )

@@ -173,36 +173,34 @@ fn add_drawn<R: Wait>(
     }
 }
 
-/// Makes the puts.
-pub(crate) fn do_puts<R: Threads + Sync + Wait + Clock + Eprint>(
+/// Makes the puts, sees what was told, and answers how many there were.
+pub(crate) fn check_puts<R: Threads + Sync + Wait + Clock + Eprint>(
     rt: &R,
     alloc: Global,
     options: &Options,
-) -> Result<Done, BenchFault> {
+) -> Result<u64, BenchFault> {
     let job = Puts {
         spacing: options.spacing,
         count: options.puts,
     };
-    do_job(rt, alloc, options.shape()?, options.spacing, &[], &job)
+    let mut done = do_job(rt, alloc, options.shape()?, options.spacing, &[], &job)?;
+    keep_left(options, &mut done)?;
+    are_told_once(options, &mut done.told)?;
+    is_counted(alloc, &done)?;
+    Ok(done.told.len() as u64)
+}
+
+/// Keeps the numbers that the few keys have in the end, beside those that were told.
+fn keep_left(options: &Options, done: &mut Done) -> Result<(), BenchFault> {
+    for place in 0..FEW as u32 {
+        keep(&mut done.told, done.ended.get(options.spacing.key(place)))?;
+    }
+    Ok(())
 }
 
 /// Sees that each number that was put at the few keys was told once: to the call that took its
-/// place, or in the end. It answers how many there were.
-pub(crate) fn are_told_once(
-    alloc: Global,
-    options: &Options,
-    done: Done,
-) -> Result<u64, BenchFault> {
-    let Done {
-        ended,
-        mut told,
-        ..
-    } = done;
-    for place in 0..FEW as u32 {
-        if let Some(value) = ended.get(options.spacing.key(place)) {
-            told.push(value.get())?;
-        }
-    }
+/// place, or in the end.
+fn are_told_once(options: &Options, told: &mut Vec<u64>) -> Result<(), BenchFault> {
     told.sort()?;
     let count = (options.threads as u64).wrapping_mul(u64::from(options.puts));
     let are_all = told.len() as u64 == count;
@@ -210,30 +208,37 @@ pub(crate) fn are_told_once(
     if !are_all || !numbers.all(|(value, wanted)| *value == wanted) {
         return Err(BenchFault::Wrong(Wrong::Told));
     }
-    let entries = ended.entries(alloc)?;
-    if entries.len() as u64 != ended.size() {
-        return Err(BenchFault::Wrong(Wrong::Size));
-    }
-    Ok(count)
+    Ok(())
 }
 
-/// Makes the adds.
-pub(crate) fn do_adds<R: Threads + Sync + Wait + Clock + Eprint>(
+/// Sees that the map has as many keys as it says.
+fn is_counted(alloc: Global, done: &Done) -> Result<(), BenchFault> {
+    let entries = done.ended.entries(alloc)?;
+    if entries.len() as u64 != done.ended.size() {
+        return Err(BenchFault::Wrong(Wrong::Size));
+    }
+    Ok(())
+}
+
+/// Makes the adds, sees what was added, and answers how many there were.
+pub(crate) fn check_adds<R: Threads + Sync + Wait + Clock + Eprint>(
     rt: &R,
     alloc: Global,
     options: &Options,
-) -> Result<Done, BenchFault> {
+) -> Result<u64, BenchFault> {
     let job = Adds {
         spacing: options.spacing,
         count: options.adds,
         threads: options.threads as u64,
     };
-    do_job(rt, alloc, options.shape()?, options.spacing, &[], &job)
+    let done = do_job(rt, alloc, options.shape()?, options.spacing, &[], &job)?;
+    is_summed(alloc, &done)?;
+    is_counted(alloc, &done)?;
+    Ok(done.tally.calls)
 }
 
-/// Sees that the numbers in the map are the sum of what was added. It answers how many adds there
-/// were.
-pub(crate) fn are_summed(alloc: Global, done: &Done) -> Result<u64, BenchFault> {
+/// Sees that the numbers in the map are the sum of what was added.
+fn is_summed(alloc: Global, done: &Done) -> Result<(), BenchFault> {
     let entries = done.ended.entries(alloc)?;
     let mut sum = 0u64;
     for (_key, value) in entries.iter() {
@@ -242,8 +247,5 @@ pub(crate) fn are_summed(alloc: Global, done: &Done) -> Result<u64, BenchFault> 
     if sum != done.tally.sum {
         return Err(BenchFault::Wrong(Wrong::Sum));
     }
-    if entries.len() as u64 != done.ended.size() {
-        return Err(BenchFault::Wrong(Wrong::Size));
-    }
-    Ok(done.tally.calls)
+    Ok(())
 }

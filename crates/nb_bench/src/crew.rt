@@ -1,5 +1,5 @@
 //! Workers: threads that call one map, each with a seat of its own.
-ghost use Rattle.std.specs.Prelude.{◌≡◌, All, IfOk, length};
+ghost use Rattle.std.specs.Prelude.{◌≡◌, ◌∷◌, ◌++◌, [], All, IfOk, OnOk, length};
 ghost use Rattle.nb_map.specs.Maps.{AreMine, IsMine};
 
 use crate::faults::{BenchFault, WorkFault};
@@ -199,36 +199,78 @@ fn append(all: &mut Vec<u64>, more: &Vec<u64>) -> Result<(), OutOfMemory> {
     Ok(())
 }
 
-/// The workers' seats, and what they counted and were told in all. Where one of them stopped early,
-/// why it did.
-fn parted(
-    alloc: Global,
-    map: &Map,
-    workers: Vec<Worker>,
-) -> Result<(Vec<Seat>, Tally, Vec<u64>), BenchFault>
-    requires own { All (λ w. IsMine map.now w.seat) workers.items }
-    ensures own { IfOk result (λ parts. AreMine map.now parts.0.items) }
-    ensures count { IfOk result (λ parts. length parts.0.items ≡ length workers.items) }
-{
-    let mut workers = workers;
-    let mut seats = Vec::new(alloc);
-    let mut all = Tally::NOTHING;
-    let mut told = Vec::new(alloc);
-    while let Some(worker) = workers.pop() {
-        let Worker {
-            seat,
-            tally,
-            told: told_one,
-            fault,
-        } = worker;
-        if let Some(fault) = fault {
+/// What is gathered of workers whose job is done: their seats, and what they counted and were told
+/// in all.
+#[derive(Drop)]
+struct Gathered {
+    seats: Vec<Seat>,
+    tally: Tally,
+    told: Vec<u64>,
+}
+
+impl Gathered {
+    /// Gathers one more worker. Where it stopped early, this is why it did.
+    fn take(&mut self, worker: Worker) -> Result<(), BenchFault>
+        ensures { OnOk result (self.new.seats.items ≡ self.old.seats.items ++ worker.seat ∷ []) }
+    {
+        if let Some(fault) = worker.fault {
             return Err(BenchFault::Work(fault));
         }
-        all = all.beside(tally);
-        append(&mut told, &told_one)?;
-        seats.push(seat)?;
+        self.tally = self.tally.beside(worker.tally);
+        append(&mut self.told, &worker.told)?;
+        self.seats.push(worker.seat)?;
+        Ok(())
     }
-    Ok((seats, all, told))
+}
+
+/// Gathers all of the workers.
+fn gather(alloc: Global, map: &Map, workers: Vec<Worker>) -> Result<Gathered, BenchFault>
+    requires own { All (λ w. IsMine map.now w.seat) workers.items }
+    ensures own { IfOk result (λ all. AreMine map.now all.seats.items) }
+    ensures count { IfOk result (λ all. length all.seats.items ≡ length workers.items) }
+{
+    let mut workers = workers;
+    let mut all = Gathered {
+        seats: Vec::new(alloc),
+        tally: Tally::NOTHING,
+        told: Vec::new(alloc),
+    };
+    while let Some(worker) = workers.pop() {
+        all.take(worker)?;
+    }
+    Ok(all)
+}
+
+/// Workers at the seats do the job, once there are numbers at the keys with these places.
+fn worked<R: Threads + Sync + Wait + Clock + Eprint, J: Job + Sync>(
+    rt: &R,
+    alloc: Global,
+    map: &Map,
+    seats: Vec<Seat>,
+    spacing: Spacing,
+    places: &[u32],
+    job: &J,
+) -> Result<Gathered, BenchFault>
+    requires own { AreMine map.now seats.items }
+    ensures own { IfOk result (λ all. AreMine map.now all.seats.items) }
+    ensures count { IfOk result (λ all. length all.seats.items ≡ length seats.items) }
+{
+    let seats = filled(rt, map, seats, spacing, places)?;
+    let mut workers = hired(alloc, map, seats)?;
+    all_work(rt, map, job, workers.as_mut_slice());
+    gather(alloc, map, workers)
+}
+
+/// Ends a map whose seats are all gathered.
+fn finished(map: Map, gathered: Gathered) -> Done
+    requires own { AreMine map gathered.seats.items }
+    requires all { length gathered.seats.items ≡ map.chain.shape.seats }
+{
+    let Gathered { seats, tally, told } = gathered;
+    match map.finish(seats) {
+        Ok(ended) => Done { ended, tally, told },
+        Err(_) => unreachable!(),
+    }
 }
 
 /// Does a job on a new map, which has numbers at the keys with these places from the start.
@@ -241,12 +283,6 @@ pub(crate) fn do_job<R: Threads + Sync + Wait + Clock + Eprint, J: Job + Sync>(
     job: &J,
 ) -> Result<Done, BenchFault> {
     let (map, seats) = Map::new(alloc, shape)?;
-    let seats = filled(rt, &map, seats, spacing, places)?;
-    let mut workers = hired(alloc, &map, seats)?;
-    all_work(rt, &map, job, workers.as_mut_slice());
-    let (seats, tally, told) = parted(alloc, &map, workers)?;
-    let Ok(ended) = map.finish(seats) else {
-        unreachable!();
-    };
-    Ok(Done { ended, tally, told })
+    let gathered = worked(rt, alloc, &map, seats, spacing, places, job)?;
+    Ok(finished(map, gathered))
 }

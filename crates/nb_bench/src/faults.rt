@@ -3,20 +3,26 @@
 use nb_core::{OutOfMemory, RangeFault, ShapeFault};
 use nb_lines::WordsFault;
 use std::alloc::AllocFailed;
-use std::io;
-use thiserror::Error;
+use std::{fmt, io};
 
 /// Why a worker stopped.
-#[derive(Clone, Copy, Debug, Error)]
+#[derive(Clone, Copy)]
 pub(crate) enum WorkFault {
-    #[error("the map is full: the plan has too few slots")]
     Full,
-    #[error("the clock can't be read")]
     Clock,
-    #[error("a number is too large")]
     Range,
-    #[error("out of memory")]
     OutOfMemory,
+}
+
+impl WorkFault {
+    fn text(self) -> &'static str {
+        match self {
+            WorkFault::Full => "the map is full: the plan has too few slots",
+            WorkFault::Clock => "the clock can't be read",
+            WorkFault::Range => "a number is too large",
+            WorkFault::OutOfMemory => "out of memory",
+        }
+    }
 }
 
 impl<T: Drop> From<AllocFailed<T>> for WorkFault {
@@ -38,29 +44,31 @@ impl From<io::Error> for WorkFault {
 }
 
 /// What a check found to be wrong.
-#[derive(Clone, Copy, Debug, Error)]
+#[derive(Clone, Copy)]
 pub(crate) enum Wrong {
-    #[error("a number was told twice, or never")]
     Told,
-    #[error("the sum isn't what was added")]
     Sum,
-    #[error("the size isn't the number of keys")]
     Size,
 }
 
+impl Wrong {
+    fn text(self) -> &'static str {
+        match self {
+            Wrong::Told => "a number was told twice, or never",
+            Wrong::Sum => "the sum isn't what was added",
+            Wrong::Size => "the size isn't the number of keys",
+        }
+    }
+}
+
 /// Why nothing was measured.
-#[derive(Debug, Drop, Error)]
+#[derive(Drop)]
 pub(crate) enum BenchFault {
-    #[error("{0}")]
     Words(WordsFault),
     /// There is no such map. What words ask for one is seen before.
-    #[error("{0}")]
     Shape(ShapeFault),
-    #[error("{0}")]
     Work(WorkFault),
-    #[error("{0}")]
     Wrong(Wrong),
-    #[error("write failed")]
     Write,
 }
 
@@ -73,6 +81,18 @@ impl BenchFault {
             BenchFault::Wrong(_) => 2,
             BenchFault::Shape(_) => 3,
             BenchFault::Work(_) => 4,
+        }
+    }
+}
+
+impl fmt::Display for BenchFault {
+    fn fmt<W: fmt::Write>(&self, f: &mut fmt::Formatter<W>) -> fmt::Result {
+        match self {
+            BenchFault::Words(fault) => fmt::Display::fmt(fault, f),
+            BenchFault::Shape(fault) => fmt::Display::fmt(fault, f),
+            BenchFault::Work(fault) => f.write_str(fault.text()),
+            BenchFault::Wrong(wrong) => f.write_str(wrong.text()),
+            BenchFault::Write => f.write_str("write failed"),
         }
     }
 }
@@ -104,11 +124,5 @@ impl<T: Drop> From<AllocFailed<T>> for BenchFault {
 impl From<WorkFault> for BenchFault {
     fn from(fault: WorkFault) -> BenchFault {
         BenchFault::Work(fault)
-    }
-}
-
-impl From<Wrong> for BenchFault {
-    fn from(wrong: Wrong) -> BenchFault {
-        BenchFault::Wrong(wrong)
     }
 }

@@ -1,8 +1,7 @@
 //! Many keys: maps with room for so many are made, filled and read.
 
-use crate::crew::do_job;
-use crate::faults::{BenchFault, Wrong};
-use crate::growth::{Growth, Pass};
+use crate::faults::BenchFault;
+use crate::growth::{Pass, pass_once};
 use crate::keys::shuffled;
 use crate::options::Options;
 use crate::timing::{Watch, nanoseconds_since, now};
@@ -65,8 +64,7 @@ fn time_make<R: Clock>(rt: &R, alloc: Global, options: &Options) -> Result<u64, 
     Ok(spent?)
 }
 
-/// Makes a pass on a new map that has numbers at the keys with these places from the start, and
-/// answers its time.
+/// Makes a pass on a new map, and answers its time.
 fn time_pass<R: Threads + Sync + Wait + Clock + Eprint>(
     rt: &R,
     alloc: Global,
@@ -74,15 +72,7 @@ fn time_pass<R: Threads + Sync + Wait + Clock + Eprint>(
     pass: Pass,
     places: &[u32],
 ) -> Result<u64, BenchFault> {
-    let job = Growth::new(pass, options, places);
-    let before = match pass {
-        Pass::Gets => places,
-        _ => &[],
-    };
-    let done = do_job(rt, alloc, options.shape()?, options.spacing, before, &job)?;
-    if done.ended.size() != places.len() as u64 {
-        return Err(BenchFault::Wrong(Wrong::Size));
-    }
+    let done = pass_once(rt, alloc, options, pass, places)?;
     Ok(done.tally.nanoseconds)
 }
 

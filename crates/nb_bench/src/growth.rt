@@ -58,6 +58,30 @@ impl<'a> Growth<'a> {
         let (part, _) = rest.split_at(size.min(rest.len()));
         part
     }
+
+    /// Makes the pass at the keys with these places, and answers how long the longest put took where
+    /// that is asked for.
+    fn pass_at<R: Wait + Clock>(
+        &self,
+        rt: &R,
+        map: &Map,
+        worker: &mut Worker,
+        places: &[u32],
+    ) -> Result<Option<u64>, WorkFault>
+        requires own { IsMine map.now worker.old.seat }
+        ensures own { IsMine map.now worker.new.seat }
+    {
+        let spacing = self.spacing;
+        match self.pass {
+            Pass::Puts => put_all(rt, map, &mut worker.seat, spacing, places)?,
+            Pass::Gets => worker.tally.sum = get_all(map, &mut worker.seat, spacing, places),
+            Pass::LongestPut => {
+                return Ok(Some(longest_put(rt, map, &mut worker.seat, spacing, places)?));
+            }
+            Pass::TimedPuts => time_puts(rt, map, worker, spacing, places)?,
+        }
+        Ok(None)
+    }
 }
 
 impl Job for Growth<'_> {
@@ -74,15 +98,7 @@ impl Job for Growth<'_> {
         let part = self.part(number);
         self.meeting.meet();
         let start = now(rt)?;
-        let mut longest = None;
-        match self.pass {
-            Pass::Puts => put_all(rt, map, &mut worker.seat, self.spacing, part)?,
-            Pass::Gets => worker.tally.sum = get_all(map, &mut worker.seat, self.spacing, part),
-            Pass::LongestPut => {
-                longest = Some(longest_put(rt, map, &mut worker.seat, self.spacing, part)?);
-            }
-            Pass::TimedPuts => time_puts(rt, map, worker, self.spacing, part)?,
-        }
+        let longest = self.pass_at(rt, map, worker, part)?;
         worker.tally.calls = part.len() as u64;
         let spent = nanoseconds_since(rt, start)?;
         worker.tally.nanoseconds = longest.unwrap_or(spent);
@@ -145,17 +161,20 @@ fn timed_put<R: Wait + Clock>(
     nanoseconds_since(rt, start)
 }
 
-/// Puts all keys in a new map.
-fn put_once<R: Threads + Sync + Wait + Clock + Eprint>(
+/// Makes a pass on a new map. One of gets finds numbers at the keys with these places.
+pub(crate) fn pass_once<R: Threads + Sync + Wait + Clock + Eprint>(
     rt: &R,
     alloc: Global,
     options: &Options,
     pass: Pass,
     places: &[u32],
 ) -> Result<Done, BenchFault> {
-    let shape = options.shape()?;
     let job = Growth::new(pass, options, places);
-    let done = do_job(rt, alloc, shape, options.spacing, &[], &job)?;
+    let before = match pass {
+        Pass::Gets => places,
+        _ => &[],
+    };
+    let done = do_job(rt, alloc, options.shape()?, options.spacing, before, &job)?;
     if done.ended.size() != places.len() as u64 {
         return Err(BenchFault::Wrong(Wrong::Size));
     }
@@ -206,8 +225,8 @@ fn time_round<R: Threads + Sync + Wait + Clock + Eprint>(
     options: &Options,
     places: &[u32],
 ) -> Result<Times, BenchFault> {
-    let whole = put_once(rt, alloc, options, Pass::Puts, places)?;
-    let mut timed = put_once(rt, alloc, options, Pass::TimedPuts, places)?;
+    let whole = pass_once(rt, alloc, options, Pass::Puts, places)?;
+    let mut timed = pass_once(rt, alloc, options, Pass::TimedPuts, places)?;
     timed.told.sort()?;
     let times = timed.told.as_slice();
     Ok([

@@ -21,16 +21,9 @@ pub(crate) struct Options {
     pub(crate) threads: usize,
     /// How long it is measured.
     pub(crate) time: Duration,
-    /// The exponents of the tables' sizes; none, where the number of keys decides.
-    exponents: Vec<u32>,
+    tables: Tables,
     /// How many keys there are.
     pub(crate) keys: u32,
-    /// Over how many words the size is counted.
-    stripes: usize,
-    /// Past how many slots of its path no new key is put in a table that isn't the last.
-    reprobes: u32,
-    /// How many slots are handed out at once when a table is copied.
-    chunk: u32,
     pub(crate) spacing: Spacing,
     /// How often each key is drawn, in `A`, `B` and `C`.
     pub(crate) law: Law,
@@ -46,17 +39,31 @@ pub(crate) struct Options {
     pub(crate) progress: ProgressMeter,
 }
 
+/// The tables that are asked for.
+#[derive(Drop)]
+struct Tables {
+    /// The exponents of their sizes; none, where the number of keys decides.
+    exponents: Vec<u32>,
+    /// Over how many words the size is counted.
+    stripes: usize,
+    /// Past how many slots of its path no new key is put in a table that isn't the last.
+    reprobes: u32,
+    /// How many slots are handed out at once when a table is copied.
+    chunk: u32,
+}
+
 impl Options {
     /// The shape of the map.
     pub(crate) fn shape(&self) -> Result<Shape, ShapeFault> {
-        if self.exponents.is_empty() {
+        let tables = &self.tables;
+        if tables.exponents.is_empty() {
             return self.shape_by_keys();
         }
-        Shape::of_tables(self.exponents.as_slice())?
+        Shape::of_tables(tables.exponents.as_slice())?
             .with_seats(self.threads)?
-            .with_stripes(self.stripes)?
-            .with_reprobe_limit(self.reprobes)?
-            .with_chunk(self.chunk)
+            .with_stripes(tables.stripes)?
+            .with_reprobe_limit(tables.reprobes)?
+            .with_chunk(tables.chunk)
     }
 
     /// The shape for the workload's keys, in `G` for all that ever come.
@@ -290,32 +297,60 @@ fn read_time(alloc: Global, text: &str) -> Result<Duration, WordsFault> {
     }
 }
 
+/// How many keys are asked for, if they are.
+fn live_of(alloc: Global, given: &Given) -> Result<Option<u32>, WordsFault> {
+    match LIVE.find(alloc, given)? {
+        Some(live) => Ok(Some(live as u32)),
+        None => Ok(None),
+    }
+}
+
+/// The tables that are asked for, or those of the workload with so many keys and threads.
+fn tables_of(
+    alloc: Global,
+    workload: Workload,
+    keys: u32,
+    threads: u64,
+    given: &Given,
+) -> Result<Tables, WordsFault> {
+    let stripes = STRIPES.find(alloc, given)?.unwrap_or(threads);
+    let reprobes = REPROBES.find(alloc, given)?.unwrap_or(REPROBES.high);
+    let chunk = CHUNK.find(alloc, given)?.unwrap_or(8);
+    Ok(Tables {
+        exponents: plan_of(alloc, workload, keys, given)?,
+        stripes: stripes as usize,
+        reprobes: reprobes as u32,
+        chunk: chunk as u32,
+    })
+}
+
+/// How many calls are asked for, and how many puts and adds of the check.
+fn counts_of(alloc: Global, given: &Given) -> Result<(u64, u32, u64), WordsFault> {
+    let calls = CALLS.find(alloc, given)?.unwrap_or(u64::MAX);
+    let puts = PUTS.find(alloc, given)?.unwrap_or(0);
+    let adds = ADDS.find(alloc, given)?.unwrap_or(0);
+    Ok((calls, puts as u32, adds))
+}
+
 /// The options that the command line gives.
 fn options_of(alloc: Global, given: &Given) -> Result<Options, WordsFault> {
     let workload = read_workload(alloc, given.text("WORKLOAD").unwrap_or(""))?;
     let threads = THREADS.find(alloc, given)?.unwrap_or(1);
-    let stripes = STRIPES.find(alloc, given)?.unwrap_or(threads);
-    let reprobes = REPROBES.find(alloc, given)?.unwrap_or(REPROBES.high);
-    let live = match LIVE.find(alloc, given)? {
-        Some(live) => Some(live as u32),
-        None => None,
-    };
-    let keys = workload.keys(live);
+    let keys = workload.keys(live_of(alloc, given)?);
     let (spacing, law) = read_keys(alloc, given.text("--keys").unwrap_or("dense"))?;
+    let time = read_time(alloc, given.text("SECONDS").unwrap_or("1"))?;
+    let (calls, puts, adds) = counts_of(alloc, given)?;
     Ok(Options {
         workload,
         threads: threads as usize,
-        time: read_time(alloc, given.text("SECONDS").unwrap_or("1"))?,
-        exponents: plan_of(alloc, workload, keys, given)?,
+        time,
+        tables: tables_of(alloc, workload, keys, threads, given)?,
         keys,
-        stripes: stripes as usize,
-        reprobes: reprobes as u32,
-        chunk: CHUNK.find(alloc, given)?.unwrap_or(8) as u32,
         spacing,
         law,
-        calls: CALLS.find(alloc, given)?.unwrap_or(u64::MAX),
-        puts: PUTS.find(alloc, given)?.unwrap_or(0) as u32,
-        adds: ADDS.find(alloc, given)?.unwrap_or(0),
+        calls,
+        puts,
+        adds,
         progress: ProgressMeter::NONE,
     })
 }

@@ -1,6 +1,6 @@
 //! The program: its words, what it prints, and its exit status.
 
-use crate::checks::{are_summed, are_told_once, do_adds, do_puts};
+use crate::checks::{check_adds, check_puts};
 use crate::faults::BenchFault;
 use crate::keys::KEY_COUNT;
 use crate::kinds::Kind;
@@ -30,9 +30,9 @@ fn run_checks<R: Threads + Sync + Wait + Clock + Print + Eprint>(
     options: &Options,
 ) -> Result<(), BenchFault> {
     let threads = options.threads;
-    let puts = are_told_once(alloc, options, do_puts(rt, alloc, options)?)?;
+    let puts = check_puts(rt, alloc, options)?;
     options.progress.tell_part(rt, 1, 2, "parts");
-    let adds = are_summed(alloc, &do_adds(rt, alloc, options)?)?;
+    let adds = check_adds(rt, alloc, options)?;
     written(println!(rt; "nb check {threads} {puts} puts {adds} adds ok"))
 }
 

@@ -3,8 +3,10 @@
 //!
 //! It shows how threads share values of a type of the program's own: a `LongMap` ties a value to
 //! each number that a map has at a key. A `get` reads the value by reference, and no lock is taken
-//! for it. A value that was put stays until the map is dropped, also where its key was put again:
-//! the program tells how many there are.
+//! for it. A value that was put stays in the map's store, also where its key was put again. Block
+//! after block of the trace all workers make the calls of its lines and are joined, and where more
+//! than half of the store is stale the cache is made anew with a new one, into which just the values
+//! go that gets find. So its memory depends on its keys, and not on how long the trace is.
 //!
 //! Each line is parsed once, by one of the workers. Each key is one worker's, so the trace's order
 //! holds for each key, and what is printed is the same whatever the schedule.
@@ -13,8 +15,11 @@
 pub(crate) mod options;
 pub(crate) mod parsing;
 pub(crate) mod printing;
+pub(crate) mod renewing;
 pub(crate) mod replaying;
+pub(crate) mod run;
 pub(crate) mod serve;
+pub(crate) mod stream;
 pub(crate) mod trace;
 
 use nb_lines::{ProgressMeter, end_of, size_of_input};

@@ -28,8 +28,8 @@ const MORE: &str = "\
 Each line of the trace is 'get KEY' or 'put KEY TEXT', with one space between the
 words. TEXT is the rest of the line, which ends with a newline, or with a carriage
 return and a newline. Keys go from 0 to 18446744073709551613. One worker replays
-all lines of a key, in their order. Each text that was put stays in memory to the
-end. 'stale' is the number of texts that no get finds any more.
+all lines of a key, in their order. 'stale' is the number of texts that no get finds
+any more; now and then they are freed.
 
 Exit status: 0 done; 1 a read or a write failed; 2 a line is not of this form;
 3 bad usage; 4 out of memory; 5 more different keys than there is room for;

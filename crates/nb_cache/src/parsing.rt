@@ -1,4 +1,4 @@
-//! Parsing: each line of a trace is read once, by one of the workers.
+//! Parsing: each line of a block is read once, by one of the workers.
 
 use crate::trace::{Request, read_request};
 use nb_core::{MAX_SEATS, OutOfMemory};
@@ -7,7 +7,7 @@ use std::alloc::Global;
 use std::thread;
 use std::thread::Threads;
 
-/// A part of a trace, and what its lines ask for.
+/// A part of a block, and what its lines ask for.
 #[derive(Drop)]
 pub(crate) struct Part<'a> {
     text: &'a [u8],
@@ -80,7 +80,7 @@ impl<'a> Part<'a> {
     }
 }
 
-/// A trace whose lines are read.
+/// A block of a trace whose lines are read.
 #[derive(Drop)]
 pub(crate) struct Trace<'a> {
     /// Its parts, in their order.
@@ -114,12 +114,14 @@ fn parts_of(alloc: Global, text: &[u8], workers: usize) -> Result<Vec<Part<'_>>,
     Ok(parts)
 }
 
-/// Reads all lines of a trace, by so many workers at the same time. The first broken line is told.
+/// Reads all lines of a block behind so many other lines of a trace, by so many workers at the same
+/// time. The first broken line is told.
 pub(crate) fn parsed<'a, R: Threads + Sync>(
     rt: &R,
     alloc: Global,
     text: &'a [u8],
     workers: usize,
+    before: u64,
 ) -> Result<Trace<'a>, ProgramFault> {
     let mut parts = parts_of(alloc, text, workers)?;
     thread::for_each_mut(
@@ -133,7 +135,10 @@ pub(crate) fn parsed<'a, R: Threads + Sync>(
         lines = lines.wrapping_add(part.lines);
         match part.stopped {
             None => {}
-            Some(Stop::Line(cause)) => return Err(ProgramFault::Line(lines.wrapping_add(1), cause)),
+            Some(Stop::Line(cause)) => {
+                let line = before.wrapping_add(lines).wrapping_add(1);
+                return Err(ProgramFault::Line(line, cause));
+            }
             Some(Stop::OutOfMemory) => return Err(ProgramFault::OutOfMemory),
         }
     }

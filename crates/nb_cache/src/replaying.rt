@@ -2,26 +2,30 @@
 ghost use Rattle.std.specs.Prelude.{◌≡◌, ◌+◌, ◌%◌, ◌^◌, ℕ, OnOk, Option, if◌then◌else◌, is_some};
 ghost use Rattle.nb_core.specs.Log.{reply_at};
 ghost use Rattle.nb_core.specs.declared.calls.Call.TheVariants as map_call;
+ghost use Rattle.nb_long.specs.Handles.{IsWhole, KeepsRest};
 ghost use Rattle.nb_map.specs.Logs.{HasReplied};
 
 use crate::options::Options;
 use crate::parsing::{Trace, parsed};
+use crate::renewing::{must_renew, renewed};
+use crate::run::Run;
+use crate::stream::Stream;
 use crate::trace::{Action, Request};
 use itoa::Buffer;
-use nb_core::{Key, MAX_SEATS, Num, OutOfMemory, Shape};
+use nb_core::{Key, Num, OutOfMemory, Shape};
 use nb_lines::{ProgramFault, ProgressMeter, key_of, number_of};
 use nb_long::{Found, Handle, LongFault};
 use std::alloc::Global;
+use std::io::Read;
 use std::sync::Wait;
 use std::sync::atomic::{AtomicU64, Ordering};
-use std::thread;
 use std::thread::Threads;
 
 /// How many lines a worker does from one word on progress to the next.
 const TOLD: u64 = 1 << 15;
 
 /// What a put stores.
-#[derive(Drop)]
+#[derive(Clone, Drop)]
 pub(crate) struct Page {
     text: Vec<u8>,
 }
@@ -39,7 +43,7 @@ pub(crate) struct Counts {
 
 impl Counts {
     /// Nothing is counted.
-    const NOTHING: Counts = Counts {
+    pub(crate) const NOTHING: Counts = Counts {
         gets: 0,
         hits: 0,
         puts: 0,
@@ -47,7 +51,7 @@ impl Counts {
     };
 
     /// What two workers counted.
-    fn with(self, other: Counts) -> Counts {
+    pub(crate) fn with(self, other: Counts) -> Counts {
         Counts {
             gets: self.gets.wrapping_add(other.gets),
             hits: self.hits.wrapping_add(other.hits),
@@ -65,89 +69,135 @@ pub(crate) struct Replayed {
     pub(crate) replies: Vec<u8>,
 }
 
-/// A thread's own: its handle of the cache, and what came of its part.
+/// What came of a worker's calls.
 #[derive(Drop)]
-struct Worker {
-    handle: Handle<Page>,
-    replayed: Replayed,
+pub(crate) struct Worker {
+    pub(crate) replayed: Replayed,
     /// Why it stopped early.
-    fault: Option<ProgramFault>,
+    pub(crate) fault: Option<ProgramFault>,
 }
 
-/// What all workers share.
+impl Worker {
+    /// No call was made.
+    pub(crate) fn new(alloc: Global) -> Worker {
+        Worker {
+            replayed: Replayed {
+                counts: Counts::NOTHING,
+                replies: Vec::new(alloc),
+            },
+            fault: None,
+        }
+    }
+}
+
+/// What all workers share while they replay a block of the trace.
 #[derive(Drop)]
-struct Run<'a> {
+pub(crate) struct Block<'a> {
     trace: Trace<'a>,
     tells_replies: bool,
-    /// How many lines are done, as far as workers have told it.
+    /// How many lines were read, with those of the block.
+    lines: u64,
+    /// How many of them are done, as far as workers have told it.
     done: AtomicU64,
     progress: ProgressMeter,
 }
 
+impl<'a> Block<'a> {
+    /// A block behind so many lines.
+    pub(crate) fn new(
+        trace: Trace<'a>,
+        tells_replies: bool,
+        before: u64,
+        progress: ProgressMeter,
+    ) -> Block<'a> {
+        Block {
+            lines: before.wrapping_add(trace.lines),
+            trace,
+            tells_replies,
+            done: AtomicU64::new(before),
+            progress,
+        }
+    }
+
+    /// How many lines were read, with those of the block.
+    pub(crate) fn lines(&self) -> u64 {
+        self.lines
+    }
+}
+
 /// Replays a trace on a new cache.
-pub(crate) fn replay<R: Threads + Sync + Wait + Eprint>(
+pub(crate) fn replay<R, I>(
     rt: &R,
     alloc: Global,
     options: &Options,
-    text: &[u8],
+    reader: I,
     progress: ProgressMeter,
-) -> Result<Replayed, ProgramFault> {
-    let run = Run {
-        trace: parsed(rt, alloc, text, options.workers)?,
-        tells_replies: options.tells_replies,
-        done: AtomicU64::new(0),
-        progress,
-    };
-    let mut workers = hired(alloc, options.shape()?)?;
-    all_work(rt, alloc, &run, workers.as_mut_slice());
+) -> Result<Replayed, ProgramFault>
+where
+    R: Threads + Sync + Wait + Eprint,
+    I: Read + Drop,
+{
+    let mut run = Run::new(alloc, options.workers, options.tells_replies, progress)?;
+    let replayed = replay_blocks(rt, alloc, options.shape()?, reader, &mut run);
     progress.end(rt);
-    gathered(alloc, workers)
+    replayed?;
+    Ok(run.gathered(alloc)?)
 }
 
-/// A worker for each seat of a new cache.
-fn hired(alloc: Global, shape: Shape) -> Result<Vec<Worker>, OutOfMemory> {
-    let mut workers = Vec::with_capacity(alloc, shape.seats())?;
-    let Ok(handles) = Handle::open(alloc, shape)?.split_all(alloc) else {
-        return Err(OutOfMemory);
-    };
-    for handle in handles {
-        let replayed = Replayed {
-            counts: Counts::NOTHING,
-            replies: Vec::new(alloc),
-        };
-        workers.push(Worker {
-            handle,
-            replayed,
-            fault: None,
-        })?;
+/// Replays a trace block after block.
+fn replay_blocks<R, I>(
+    rt: &R,
+    alloc: Global,
+    shape: Shape,
+    reader: I,
+    run: &mut Run,
+) -> Result<(), ProgramFault>
+where
+    R: Threads + Sync + Wait + Eprint,
+    I: Read + Drop,
+{
+    let mut cache = Handle::open(alloc, shape)?;
+    let mut stream = Stream::new(alloc, reader)?;
+    for _ in 0..u64::MAX {
+        if !stream.refill()? {
+            break;
+        }
+        let trace = parsed(rt, alloc, stream.block(), shape.seats(), run.lines)?;
+        cache = run.work(rt, alloc, cache, trace)?;
+        renew_in_time(rt, alloc, run, &mut cache)?;
     }
-    Ok(workers)
+    Ok(())
 }
 
-/// All workers replay their parts at the same time, each in a thread of its own.
-fn all_work<R: Threads + Sync + Wait + Eprint>(
+/// Makes the cache anew where it is time for that.
+fn renew_in_time<R: Wait>(
     rt: &R,
     alloc: Global,
-    run: &Run<'_>,
-    workers: &mut [Worker],
-) {
-    thread::for_each_mut(
-        rt,
-        workers,
-        MAX_SEATS,
-        &|number: usize, worker: &mut Worker| { work(rt, alloc, run, worker, number) },
-    );
+    run: &mut Run,
+    cache: &mut Handle<Page>,
+) -> Result<(), ProgramFault>
+    requires whole { IsWhole cache.old }
+    ensures whole { IsWhole cache.new }
+{
+    let Counts { puts, keys, .. } = run.counts();
+    if must_renew(puts.wrapping_sub(run.freed), keys) && renewed(rt, alloc, cache)? {
+        run.freed = puts.wrapping_sub(keys);
+    }
+    Ok(())
 }
 
-/// Replays the part of the worker with this number, and keeps why it stopped early.
-fn work<R: Wait + Eprint>(
+/// Replays the part of a block that is the worker's with this number, and keeps why it stopped early.
+pub(crate) fn replay_block<R: Wait + Eprint>(
     rt: &R,
     alloc: Global,
-    run: &Run<'_>,
+    block: &Block<'_>,
     worker: &mut Worker,
+    handle: &mut Handle<Page>,
     number: usize,
-) {
-    if let Err(fault) = replay_part(rt, alloc, run, worker, number) {
+)
+    ensures rest { KeepsRest handle.old handle.new }
+{
+    if let Err(fault) = replay_part(rt, alloc, block, &mut worker.replayed, handle, number) {
         worker.fault = Some(fault);
     }
 }
@@ -156,13 +206,16 @@ fn work<R: Wait + Eprint>(
 fn replay_part<R: Wait + Eprint>(
     rt: &R,
     alloc: Global,
-    run: &Run<'_>,
-    worker: &mut Worker,
+    block: &Block<'_>,
+    replayed: &mut Replayed,
+    handle: &mut Handle<Page>,
     number: usize,
-) -> Result<(), ProgramFault> {
-    for part in run.trace.parts.iter() {
+) -> Result<(), ProgramFault>
+    ensures rest { KeepsRest handle.old handle.new }
+{
+    for part in block.trace.parts.iter() {
         if let Some(requests) = part.requests.get(number) {
-            replay_requests(rt, alloc, run, worker, requests.as_slice())?;
+            replay_requests(rt, alloc, block, replayed, handle, requests.as_slice())?;
         }
     }
     Ok(())
@@ -172,28 +225,39 @@ fn replay_part<R: Wait + Eprint>(
 fn replay_requests<R: Wait + Eprint>(
     rt: &R,
     alloc: Global,
-    run: &Run<'_>,
-    worker: &mut Worker,
+    block: &Block<'_>,
+    replayed: &mut Replayed,
+    handle: &mut Handle<Page>,
     requests: &[Request<'_>],
-) -> Result<(), ProgramFault> {
+) -> Result<(), ProgramFault>
+    ensures rest { KeepsRest handle.old handle.new }
+{
     let mut lines = 0u64;
     for request in requests {
         let key = key_of(request.number).unwrap();
-        call(rt, alloc, worker, key, request.action, run.tells_replies)?;
+        call(
+            rt,
+            alloc,
+            replayed,
+            handle,
+            key,
+            request.action,
+            block.tells_replies,
+        )?;
         lines = lines.wrapping_add(1);
         if lines % TOLD == 0 {
-            tell(rt, run);
+            tell(rt, block);
         }
     }
     Ok(())
 }
 
 /// Tells that a worker has done so many more lines.
-fn tell<R: Eprint>(rt: &R, run: &Run<'_>) {
-    if run.progress.is_told() {
-        let before = run.done.fetch_add(TOLD, Ordering::SeqCst);
+fn tell<R: Eprint>(rt: &R, block: &Block<'_>) {
+    if block.progress.is_told() {
+        let before = block.done.fetch_add(TOLD, Ordering::SeqCst);
         let done = before.wrapping_add(TOLD);
-        run.progress.tell_part(rt, done, run.trace.lines, "lines");
+        block.progress.tell_part(rt, done, block.lines, "lines");
     }
 }
 
@@ -201,38 +265,42 @@ fn tell<R: Eprint>(rt: &R, run: &Run<'_>) {
 fn call<R: Wait>(
     rt: &R,
     alloc: Global,
-    worker: &mut Worker,
+    replayed: &mut Replayed,
+    handle: &mut Handle<Page>,
     key: Key,
     action: Action<'_>,
     tells_replies: bool,
-) -> Result<(), ProgramFault> {
+) -> Result<(), ProgramFault>
+    ensures rest { KeepsRest handle.old handle.new }
+{
     match action {
-        Action::Get => get(worker, key, tells_replies),
-        Action::Put(text) => put(rt, alloc, worker, key, text),
+        Action::Get => get(replayed, handle, key, tells_replies),
+        Action::Put(text) => put(rt, alloc, replayed, handle, key, text),
     }
 }
 
 /// Gets a key's text, and says what it is where that is asked for. It counts as a hit just where
 /// the map replied that it has something at the key.
-fn get(worker: &mut Worker, key: Key, tells_replies: bool) -> Result<(), ProgramFault>
+fn get(
+    replayed: &mut Replayed,
+    handle: &mut Handle<Page>,
+    key: Key,
+    tells_replies: bool,
+) -> Result<(), ProgramFault>
+    ensures rest { KeepsRest handle.old handle.new }
     ensures hit { OnOk result ((number : Option ℕ)
-        × HasReplied (map_call.Get key) worker.old.handle.seat worker.new.handle.seat
+        × HasReplied (map_call.Get key) handle.old.seat handle.new.seat
         (reply_at (map_call.Get key) number)
-        × (worker.new.replayed.counts.hits ≡ (if is_some number
-        then (worker.old.replayed.counts.hits + 1) % 2 ^ 64
-        else worker.old.replayed.counts.hits))) }
+        × (replayed.new.counts.hits ≡ (if is_some number
+        then (replayed.old.counts.hits + 1) % 2 ^ 64
+        else replayed.old.counts.hits))) }
 {
-    let found = worker.handle.number_at(key);
-    let counts = &mut worker.replayed.counts;
+    let found = handle.number_at(key);
+    let counts = &mut replayed.counts;
     counts.gets = counts.gets.wrapping_add(1);
     if found.is_some() {
         counts.hits = counts.hits.wrapping_add(1);
     }
-    let Worker {
-        handle,
-        replayed,
-        ..
-    } = worker;
     read_page(handle, &mut replayed.replies, key, found, tells_replies)
 }
 
@@ -272,18 +340,21 @@ fn shown(
 fn put<R: Wait>(
     rt: &R,
     alloc: Global,
-    worker: &mut Worker,
+    replayed: &mut Replayed,
+    handle: &mut Handle<Page>,
     key: Key,
     text: &[u8],
-) -> Result<(), ProgramFault> {
+) -> Result<(), ProgramFault>
+    ensures rest { KeepsRest handle.old handle.new }
+{
     let page = Page {
         text: Vec::from_slice(alloc, text)?,
     };
-    let stored = match worker.handle.put(rt, key, page) {
+    let stored = match handle.put(rt, key, page) {
         Ok(stored) => stored,
         Err(refused) => return Err(fault_of(refused)),
     };
-    let counts = &mut worker.replayed.counts;
+    let counts = &mut replayed.counts;
     counts.puts = counts.puts.wrapping_add(1);
     if stored.before.is_none() {
         counts.keys = counts.keys.wrapping_add(1);
@@ -309,23 +380,4 @@ fn say_reply(replies: &mut Vec<u8>, key: Key, text: &[u8]) -> Result<(), OutOfMe
         replies.extend_from_slice(piece)?;
     }
     Ok(())
-}
-
-/// What came of all parts, worker by worker.
-fn gathered(alloc: Global, workers: Vec<Worker>) -> Result<Replayed, ProgramFault> {
-    let mut counts = Counts::NOTHING;
-    let mut replies = Vec::new(alloc);
-    for worker in workers {
-        let Worker {
-            replayed,
-            fault,
-            ..
-        } = worker;
-        if let Some(fault) = fault {
-            return Err(fault);
-        }
-        counts = counts.with(replayed.counts);
-        replies.extend_from_slice(replayed.replies.as_slice())?;
-    }
-    Ok(Replayed { counts, replies })
 }

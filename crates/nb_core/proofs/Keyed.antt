@@ -1,12 +1,12 @@
 -- The plan for a number of keys: its exponents, its room, and which numbers are refused.
-use Rattle.std.proofs.Common.{◌≡◌, ◌∙◌, ℕ, zero, suc, ◌+◌, ◌*◌, ◌-◌, ◌^◌, ◌<◌, ◌≤◌, max, min, [], ◌∷◌, inl, inr, refl, Ok, add-one, ap, arith, subst, sym}
+use Rattle.std.proofs.Common.{◌≡◌, ◌∙◌, ℕ, zero, suc, ◌+◌, ◌*◌, ◌-◌, ◌^◌, ◌<◌, ◌≤◌, max, min, inl, inr, refl, Ok, add-one, ap, arith, subst, sym}
 use lib.Count.{ones}
 use Rattle.std.proofs.Math.Nat.{le-max_left, le-max_right, pow-suc, sub-add-eq-max}
 use Rattle.std.proofs.Math.Pow.{pow_mono}
 use Rattle.std.proofs.lemmas.Bool.{cases_lt, le-leb, lt-leb}
-use Rattle.nb_core.specs.declared.shapes.TheConstants.{MAX_SLOTS, MOST_KEYS, SHARED_STRIPES}
-use Rattle.nb_core.specs.declared.shapes.keys.TheConstants.{MANY_CHUNK, MANY_REPROBES}
-use Rattle.nb_core.specs.Plans.{HasRoomFor, Plan, checked_chunk, checked_reprobes, exponent_for, first_exponent, plan, plan_for_few_keys, plan_for_many_keys, slots_for, slots_in, steps_down, tables_for}
+use Rattle.nb_core.specs.declared.shapes.TheConstants.{MOST_KEYS, SHARED_STRIPES}
+use Rattle.nb_core.specs.declared.shapes.keys.TheConstants.{KEYS_CHUNK, SHORT_PATH}
+use Rattle.nb_core.specs.Plans.{HasRoomFor, Plan, checked_chunk, checked_reprobes, exponent_for, first_exponent, plan, plan_for_keys, slots_for, steps_down, tables_for}
 use Rattle.nb_core.proofs.Stepped.{steps_down-last}
 
 -- the first exponent with room is the one that has room where none before it has
@@ -79,35 +79,17 @@ exponent-found most slots low few is under over = record {
       let rises : 2 ^ k ≤ 2 ^ low = pow_mono below in
       omega (arith, some, under, is, sub-add-eq-max (slots_for most) 32)
 
--- two tables, of which the first has an eighth of the slots, are not too large
-pub two-slots : (last : ℕ) → last ≤ 28 → slots_in ((last - 3) ∷ last ∷ []) ≤ MAX_SLOTS
-two-slots last few =
-    let first : 2 ^ (last - 3) ≤ 2 ^ 28 = pow_mono {j = 28} (omega (arith, few)) in
-    let second : 2 ^ last ≤ 2 ^ 28 = pow_mono few in
-    omega (arith, first, second)
-
--- tuned, they are the plan for few keys
-pub tuned-two :
-    (most last seats : ℕ) (made limited : Plan) → exponent_for most ≡ last
-    → made ≡ plan ((last - 3) ∷ last ∷ []) seats seats → checked_reprobes made 18 ≡ Ok limited
-    → checked_chunk limited 64 ≡ Ok (plan_for_few_keys most seats)
-unfolding ones
-tuned-two most last seats made limited at is limits =
-    let untuned = plan ((last - 3) ∷ last ∷ []) seats seats in
-    let whole : limited ≡ record untuned { reprobes = 18 } = cc in
-    rw (whole, at) refl
-
--- tuned, tables in steps are the plan for many keys
+-- tuned, tables in steps are the plan for so many keys
 pub tuned-steps :
     (most last seats stripes : ℕ) (made limited : Plan) → exponent_for most ≡ last
     → stripes ≡ min seats SHARED_STRIPES
     → made ≡ plan (steps_down (tables_for last) last) seats stripes
-    → checked_reprobes made MANY_REPROBES ≡ Ok limited
-    → checked_chunk limited MANY_CHUNK ≡ Ok (plan_for_many_keys most seats)
+    → checked_reprobes made SHORT_PATH ≡ Ok limited
+    → checked_chunk limited KEYS_CHUNK ≡ Ok (plan_for_keys most seats)
 unfolding ones
 tuned-steps most last seats stripes made limited at shared is limits =
     let untuned = plan (steps_down (tables_for last) last) seats stripes in
-    let whole : limited ≡ record untuned { reprobes = MANY_REPROBES } = cc in
+    let whole : limited ≡ record untuned { reprobes = SHORT_PATH } = cc in
     rw (whole, at, shared) refl
 
 -- if the largest table that is tried has so many slots, the one that is found has them
@@ -129,14 +111,10 @@ first_exponent-room (suc tries) e slots room =
 exponent-room : (most : ℕ) → most ≤ MOST_KEYS → slots_for most ≤ 2 ^ exponent_for most
 exponent-room most few = first_exponent-room 23 5 (slots_for most) (omega (arith, few))
 
--- the last table of each plan has room for so many keys
-pub few-room :
-    (most seats : ℕ) → most ≤ MOST_KEYS → HasRoomFor (plan_for_few_keys most seats) most
-few-room most seats few = exponent-room most few
-
-pub many-room :
-    (most seats : ℕ) → most ≤ MOST_KEYS → HasRoomFor (plan_for_many_keys most seats) most
-many-room most seats few =
+-- the last table has room for so many keys
+pub keys-room :
+    (most seats : ℕ) → most ≤ MOST_KEYS → HasRoomFor (plan_for_keys most seats) most
+keys-room most seats few =
     subst (λ e. slots_for most ≤ 2 ^ e)
     (sym (steps_down-last (tables_for (exponent_for most)) (exponent_for most) (omega arith)))
     (exponent-room most few)

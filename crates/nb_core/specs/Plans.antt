@@ -4,13 +4,13 @@ use Rattle.std.specs.Prelude.{◌≡◌, ℕ, ◌+◌, ◌*◌, ◌/◌, ◌-◌
 use Rattle.std.specs.Int.{is_power_of_two}
 use Rattle.std.specs.List.{list_all}
 use Rattle.std.specs.List.Sorted.{IsNonDecreasing}
-use Rattle.nb_core.specs.declared.shapes.TheConstants.{FEW_KEYS, FEW_SEATS, FEW_STRIPES, MAX_EXPONENT, MAX_GENERATIONS, MAX_SEATS, MAX_SLOTS, MAX_STRIPES, MOST_KEYS, SHARED_STRIPES, SMALL_EXPONENT}
+use Rattle.nb_core.specs.declared.shapes.TheConstants.{FEW_SEATS, FEW_STRIPES, MAX_EXPONENT, MAX_GENERATIONS, MAX_SEATS, MAX_SLOTS, MAX_STRIPES, MOST_KEYS, SHARED_STRIPES, SMALL_EXPONENT}
 use Rattle.nb_core.specs.declared.shapes.HeaderWord.{HeaderWord}
 use Rattle.nb_core.specs.declared.shapes.HeaderWord.TheVariants as header
 use Rattle.nb_core.specs.declared.shapes.ShapeFault.{ShapeFault}
 use Rattle.nb_core.specs.declared.shapes.ShapeFault.TheVariants as fault
 use Rattle.nb_core.specs.declared.shapes.churn.TheConstants.{CHURN_GREATEST, CHURN_LEAST}
-use Rattle.nb_core.specs.declared.shapes.keys.TheConstants.{FIRST_EXPONENT, MANY_CHUNK, MANY_REPROBES, STEP}
+use Rattle.nb_core.specs.declared.shapes.keys.TheConstants.{FIRST_EXPONENT, KEYS_CHUNK, SHORT_PATH, STEP}
 
 -- Table g has 2 to the power exponents[g] slots. There are seats for so many callers, and a size is
 -- counted over so many stripes. No table but the last takes a new key past so many slots of the
@@ -221,18 +221,6 @@ first_exponent (suc tries) e slots =
 abbrev pub exponent_for : ℕ → ℕ
 exponent_for most = first_exponent 23 5 (slots_for most)
 
--- the plan for few keys: the last table has room for them, the first is an eighth of it, there is a
--- stripe for each seat, paths are short and chunks large
-abbrev pub plan_for_few_keys : ℕ → ℕ → Plan
-plan_for_few_keys most seats =
-    record {
-      exponents = (exponent_for most - 3) ∷ exponent_for most ∷ [];
-      seats = seats;
-      stripes = seats;
-      reprobes = 18;
-      chunk = 64;
-    }
-
 -- so many exponents, the last of which is this one, each STEP below the next
 unfoldable pub steps_down : (tables last : ℕ) → List ℕ
 steps_down zero last = []
@@ -242,22 +230,17 @@ steps_down (suc tables) last = steps_down tables (last - STEP) ++ last ∷ []
 abbrev pub tables_for : ℕ → ℕ
 tables_for last = (last - FIRST_EXPONENT) / STEP + 1
 
--- the plan for many keys: the last table has room for them, and each table below is smaller by a
+-- the plan for so many keys: the last table has room for them, and each table below is smaller by a
 -- fixed factor, so that a map with few keys stays small; each seat has a stripe, up to so many
-abbrev pub plan_for_many_keys : ℕ → ℕ → Plan
-plan_for_many_keys most seats =
+abbrev pub plan_for_keys : ℕ → ℕ → Plan
+plan_for_keys most seats =
     record {
       exponents = steps_down (tables_for (exponent_for most)) (exponent_for most);
       seats = seats;
       stripes = min seats SHARED_STRIPES;
-      reprobes = MANY_REPROBES;
-      chunk = MANY_CHUNK;
+      reprobes = SHORT_PATH;
+      chunk = KEYS_CHUNK;
     }
-
--- the plan for so many keys, which are few or many
-abbrev pub plan_for_keys : ℕ → ℕ → Plan
-plan_for_keys most seats =
-    if nat_le most FEW_KEYS then plan_for_few_keys most seats else plan_for_many_keys most seats
 
 -- the plan for so many keys and seats, or the first thing that is wrong with these
 abbrev pub checked_for_keys : ℕ → ℕ → Result Plan ShapeFault

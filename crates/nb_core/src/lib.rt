@@ -31,9 +31,8 @@ pub use plain::{PlainFault, PlainMap};
 pub use seat_room::SeatRoom;
 pub use seats::NotAll;
 pub use shapes::{
-    FEW_KEYS, FEW_SEATS, FEW_STRIPES, HeaderWord, INSTALLED, MAX_EXPONENT, MAX_GENERATIONS,
-    MAX_SEATS, MAX_SLOTS, MAX_STRIPES, MOST_KEYS, NOT_INSTALLED, SMALL_EXPONENT, Shape, ShapeFault,
-    TOP_INDEX,
+    FEW_SEATS, FEW_STRIPES, HeaderWord, INSTALLED, MAX_EXPONENT, MAX_GENERATIONS, MAX_SEATS,
+    MAX_SLOTS, MAX_STRIPES, MOST_KEYS, NOT_INSTALLED, SMALL_EXPONENT, Shape, ShapeFault, TOP_INDEX,
 };
 pub use slot_paths::{Path, Slot};
 pub use slot_words::{

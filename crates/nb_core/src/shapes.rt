@@ -84,10 +84,6 @@ pub const FEW_STRIPES: usize = 8;
 /// many slots again.
 pub const MOST_KEYS: usize = (1 << 29) / 3;
 
-/// The most keys for which [`Shape::for_keys`] makes two tables, 349,525. For more it makes tables
-/// that grow by larger steps.
-pub const FEW_KEYS: usize = (1 << 20) / 3;
-
 /// The most slots that are handed out for copying at once, where a shape asks for nothing else.
 const CHUNK: u16 = 8;
 
@@ -98,7 +94,7 @@ const MAX_CHUNK: u32 = 1024;
 /// it slower to tell.
 const SHARED_STRIPES: usize = 16;
 
-/// The chunk of a shape for few keys, and of one for keys that come and go.
+/// The chunk of a shape for keys that come and go.
 const LARGE_CHUNK: u32 = 64;
 
 /// The index of the top word, of any chain.

@@ -1,3 +1,4 @@
+mod Batched
 mod Crossing
 mod EndedBox
 mod HandleBox

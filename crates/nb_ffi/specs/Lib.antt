@@ -11,4 +11,5 @@ pub mod Closing
 pub mod Entries
 pub mod Telling
 pub mod Listing
+pub mod Many
 pub mod Whole

@@ -1,7 +1,8 @@
 -- What the calls of a handle promise: what the map promises of the call, said of the handle's seat,
 -- and that all else of the handle is as it was. The exports cite them.
-use Rattle.std.specs.Prelude.{ℕ, max, Option}
+use Rattle.std.specs.Prelude.{List, ℕ, max, Option}
 use Rattle.nb_core.specs.declared.calls.Call.{Call}
+use Rattle.nb_map.specs.Bulk as bulk
 use Rattle.nb_map.specs.Fullness as fullness
 use Rattle.nb_map.specs.Handles.{HandleOf, KeepsRest}
 use Rattle.nb_map.specs.Maps.{MapOf, SeatOf}
@@ -25,6 +26,10 @@ pub record HasCalled (Promise : MapOf → (before after : SeatOf) → Type 0) (b
 -- a read of a key, which finds this number there, or none
 abbrev pub HasGot : (key : ℕ) → Option ℕ → (before after : HandleOf) → Type 0
 HasGot key found = HasCalled (λ m before after. of_map.HasGot m key before after found)
+
+-- reads of these keys, which find these numbers, or none
+abbrev pub HasGotMany : (keys : List ℕ) → List (Option ℕ) → (before after : HandleOf) → Type 0
+HasGotMany keys found = HasCalled (λ m before after. bulk.HasGotMany m keys before after found)
 
 -- a write that has so many tries, and one at least
 abbrev pub HasWritten : Call → (tries : ℕ) → Outcome → (before after : HandleOf) → Type 0

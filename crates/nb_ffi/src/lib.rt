@@ -11,6 +11,7 @@ mod header;
 mod lend;
 mod life;
 mod listing;
+mod many;
 mod map_shape;
 mod occupancy;
 mod parts;

@@ -1,4 +1,5 @@
 mod Called
+mod CarriedOver
 mod Comparing
 mod Held
 mod Passed

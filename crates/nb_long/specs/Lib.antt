@@ -5,3 +5,4 @@ pub mod Handles
 pub mod Numbers
 pub mod Updating
 pub mod Renewing
+pub mod NewStore

@@ -16,6 +16,7 @@ ghost use Rattle.nb_long.specs.Promises.{HasChangedIf, HasPutValue, HasReplacedI
 mod closing;
 mod fullness;
 mod listing;
+mod new_store;
 mod renewing;
 mod settling;
 mod splitting;

@@ -1,6 +1,7 @@
 mod Alone
 mod AtHome
 mod Away
+mod Batched
 mod Bounds
 mod Claimed
 mod Climbed

@@ -148,7 +148,7 @@ made-unfilled {p} {call} {before} {after} key never made = record {
     may e made = tt
 
 -- steps of some calls after others
-made_some-more :
+pub made_some-more :
     {m : MapOf} {call : Call} {before : SeatOf} (mid after : SeatOf) {most most' : ℕ} (all : ℕ)
     → IsMine m before → most + most' ≤ all
     → HasMadeSome m.chain.shape call before.chain mid.chain most

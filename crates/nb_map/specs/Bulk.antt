@@ -1,10 +1,10 @@
 -- Calls over many keys at once: walks that show each entry to a function, those that take out what
--- the function refuses, and puts of many entries.
+-- the function refuses, puts of many entries, and reads of many keys.
 --
 -- As in `Updating`, a function that may change as it is called is told by its steps: `Step f k n
 -- keep g` says that a call of `f` at the key `k` with its number `n` may answer `keep`, whether the
 -- entry is to stay, and leave the function as `g`.
-use Rattle.std.specs.Prelude.{◌≡◌, ℕ, ◌+◌, ◌*◌, ◌+ℤ◌, Bool, true, false, List, [], ◌∷◌, ◌++◌, length, count_by, sum_by, Some, None, Option, Result, Ok, Err}
+use Rattle.std.specs.Prelude.{◌≡◌, ℕ, ◌+◌, ◌*◌, ◌≤◌, ◌+ℤ◌, Bool, true, false, List, [], ◌∷◌, ◌++◌, length, count_by, sum_by, Some, None, Option, Result, Ok, Err}
 use Rattle.nb_core.specs.Log.{reply_at}
 use Rattle.nb_core.specs.Meaning.{net_of}
 use Rattle.nb_core.specs.Plans.{Plan, generations_of}
@@ -12,12 +12,13 @@ use Rattle.nb_core.specs.declared.calls.Call.TheVariants.{Get, Write}
 use Rattle.nb_core.specs.declared.calls.Call.{Call}
 use Rattle.nb_core.specs.declared.calls.Reply.{Reply}
 use Rattle.nb_count.specs.Counts.{CountSeatOf}
-use Rattle.nb_table.specs.Chains.{SeenBy}
+use Rattle.nb_table.specs.Chains.{Grown, SeenBy}
 use Rattle.nb_map.specs.Calling.{HasMadeSome}
-use Rattle.nb_map.specs.Maps.{MapOf, SeatOf, IsMine}
+use Rattle.nb_map.specs.Logs.{HasLogged}
+use Rattle.nb_map.specs.Maps.{MapOf, SeatOf, HasWorked, IsMine}
 use Rattle.nb_map.specs.NamedCalls.{put_of, remove_if_of}
 use Rattle.nb_map.specs.Progress.{Unlimited, passed_since}
-use Rattle.nb_map.specs.Promises.{HasWritten, Found, Refused}
+use Rattle.nb_map.specs.Promises.{HasGot, HasWritten, Found, Refused}
 use Rattle.nb_map.specs.Steps.{get_steps, put_steps, slots_below}
 use Rattle.nb_map.specs.Walks.{HasShownAll}
 use Rattle.nb_map.specs.declared.faults.FullAfter.{FullAfter}
@@ -141,3 +142,52 @@ HasExtended m entries before after (Err full) =
     × (entries ≡ first ++ (next ∷ rest)) × (length first ≡ full.put)
     × HasPutAll m before first then
     × HasWritten m (put_entry next) then after Unlimited (Refused fault.Full)
+
+-- ---- reads of many keys
+
+-- The seat has read these keys in their order and found these numbers, or none, by one get after
+-- another, each with all that a get promises. Beside them it has made so many looks: steps that
+-- leave no event.
+pub data HasGotAll (m : MapOf) (before : SeatOf) :
+    List ℕ → List (Option ℕ) → (looks : ℕ) → SeatOf → Type 0 where
+  Start : HasGotAll m before [] [] 0 before
+  Looked :
+      {keys : List ℕ} {found : List (Option ℕ)} {looks : ℕ} {then after : SeatOf}
+      → HasGotAll m before keys found looks then → (more : ℕ)
+      → Grown m.chain.shape then.chain after.chain [] more → after.count ≡ then.count
+      → HasGotAll m before keys found (looks + more) after
+  Got :
+      {keys : List ℕ} {found : List (Option ℕ)} {looks : ℕ} {then after : SeatOf}
+      → HasGotAll m before keys found looks then → (key : ℕ) (number : Option ℕ)
+      → HasGot m key then after number
+      → HasGotAll m before (keys ++ (key ∷ [])) (found ++ (number ∷ [])) looks after
+
+-- the reads of these keys that found these numbers, or none, the newest first
+abbrev pub reads_of : List ℕ → List (Option ℕ) → List (Call × Reply)
+reads_of (key ∷ keys) (number ∷ found) = reads_of keys found ++ (read_as key number ∷ [])
+reads_of _ _ = []
+
+-- what a read of these keys promises, which finds these numbers, or none
+pub record HasGotMany (m : MapOf) (keys : List ℕ) (before after : SeatOf)
+    (found : List (Option ℕ)) : Type 0 where
+  -- each key is read once, in the order of the keys, with all that a get promises
+  pub looks : ℕ
+  pub got : HasGotAll m before keys found looks after
+  -- and the looks are no more than the keys
+  pub few : looks ≤ length keys
+  -- so the log goes on by these reads, each with its reply
+  pub replied : HasLogged before after (reads_of keys found)
+  -- it is wait-free: for each key it makes no more steps than a get may, and one
+  pub worked :
+      (key : ℕ) → HasWorked m (Get key) before after (length keys * (get_steps m.chain.shape + 1))
+  -- the seat is still the map's
+  pub own : IsMine m after
+
+-- Reads of many keys add up: none, and those of some keys after those of others.
+pub record ReadsAddUp : Type 0 where
+  pub none : {m : MapOf} {seat : SeatOf} → IsMine m seat → HasGotMany m [] seat seat []
+  pub more :
+      {m : MapOf} {before then after : SeatOf} {keys keys' : List ℕ}
+      {found found' : List (Option ℕ)}
+      → IsMine m before → HasGotMany m keys before then found → HasGotMany m keys' then after found'
+      → HasGotMany m (keys ++ keys') before after (found ++ found')

@@ -1,6 +1,7 @@
 //! What a crate above may rest on while its seats make one call after another. Each function
 //! carries a law as its contract, so that the gate guards it; nobody calls it. A crate above takes
 //! the laws as theorems, from `proofs/Theorems.antt`.
+ghost use Rattle.nb_map.specs.Bulk.{ReadsAddUp};
 ghost use Rattle.nb_map.specs.Crowding.{AsksAddUp, CrowdedByCalls};
 ghost use Rattle.nb_map.specs.Entries.{EntriesAtRest};
 ghost use Rattle.nb_map.specs.Fullness.{SampleIsSpread};
@@ -18,6 +19,11 @@ pub fn sample_is_spread()
 /// Calls add up: what a seat's log was, and which calls it made.
 pub fn logs_add_up()
     ensures { LogsAddUp }
+{}
+
+/// Reads of many keys add up: those of some keys after those of others are reads of all of them.
+pub fn reads_add_up()
+    ensures { ReadsAddUp }
 {}
 
 /// The reply of a call that a seat made is the call's for what was at its key.

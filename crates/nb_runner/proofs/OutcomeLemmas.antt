@@ -4,6 +4,7 @@ use Rattle.std.proofs.lemmas.List.{append_assoc, length-append, length-map, leng
 use Rattle.std.proofs.lemmas.List.Elements.{All-cons, All-head, All-map, All-nil, All-push, All-same, All-tail}
 use Rattle.std.proofs.lemmas.List.FromFn.{length-map-range_with_len}
 use Rattle.std.specs.List.{All, flat_map}
+use Rattle.std.specs.Prelude.{Result, Ok, Err, IfOk}
 use Rattle.std.specs.FinMap.{entries, len-entries}
 use Rattle.std.specs.declared.alloc.Global.{Global}
 use Rattle.std.specs.declared.vec.Vec.{Vec}
@@ -26,6 +27,20 @@ use Rattle.nb_runner.proofs.LoneText.{lone-text}
 use Rattle.nb_runner.proofs.OutputLemmas.{AreFirst, AreJoined, joined-answers, joined-lines}
 use Rattle.nb_runner.proofs.PhaseLemmas.{AnswersFit, PhaseFits, answers-fit, answers-workers}
 use Rattle.nb_runner.proofs.ToldLemmas.{MayFill, told-phases}
+
+-- ---- what is known of a value, by clause
+
+pub IfOk-both :
+    {T E : Type 0} (r : Result T E) (P Q R : T → Type 0) → ((x : T) → P x → Q x → R x)
+    → IfOk r P → IfOk r Q → IfOk r R
+IfOk-both (Ok x) P Q R f p q = f x p q
+IfOk-both (Err e) P Q R f p q = tt
+
+pub IfOk-three :
+    {T E : Type 0} (r : Result T E) (P Q R S : T → Type 0) → ((x : T) → P x → Q x → R x → S x)
+    → IfOk r P → IfOk r Q → IfOk r R → IfOk r S
+IfOk-three (Ok x) P Q R S f p q r = f x p q r
+IfOk-three (Err e) P Q R S f p q r = tt
 
 -- ---- workers for the seats
 

@@ -153,3 +153,16 @@ pub record HaveRunAll (m : MapOf) (phases : List Phase) (before after : List Wor
   pub own : All (λ worker. IsMine m worker.seat) after
   pub kept : answers_of after ≡ joined_answers (answers_of before)
       (all_answers (length before) answers)
+
+-- Workers at these seats, new ones, have run the phases: so far came the seats, and these are what
+-- their commands were answered.
+pub record HaveWorked
+    (m : MapOf) (phases : List Phase) (before after : List SeatOf) (answers : List (List Answer)) :
+    Type 0 where
+  pub workers : List Worker
+  pub retired : List Worker
+  pub seated : worker_seats workers ≡ before
+  pub fresh : All (λ worker. worker.answers.items ≡ []) workers
+  pub ran : HaveRunAll m phases workers retired
+  pub seats : after ≡ worker_seats retired
+  pub answered : answers ≡ answers_of retired

@@ -6,7 +6,7 @@ use nb_core::Num;
 use nb_map::{AddFault, Full};
 
 /// What a command answers.
-#[derive(Clone, Copy, Debug, PartialEq, Eq, Hash)]
+#[derive(Clone, Copy, Debug, PartialEq, Eq)]
 pub enum Answer {
     /// There was no value before.
     Nothing,

@@ -1,12 +1,21 @@
 //! The program as a process: its words, its streams and its exit status.
-ghost use Rattle.std.specs.Prelude.{◌≡◌, ◌≢◌};
+ghost use Rattle.std.specs.Prelude.{◌≡◌, ◌≢◌, ◌⊎◌, false};
 ghost use Rattle.std.specs.Io.{WritesAtMost};
-ghost use Rattle.nb_runner.specs.Serving.{HasServed, HasStopped, words_had};
+ghost use Rattle.nb_runner.specs.Serving.{
+  HasFailed,
+  HasRunAsAsked,
+  HasServed,
+  HasShownHelp,
+  HasStopped,
+  streams,
+  words_had,
+};
 
+use crate::gates::Gate;
 use crate::progress::{Progress, Watched};
 use crate::serving::serve_gated;
 use nb_script::options::OptionFault;
-use nb_script::streams::{FromRead, FromWrite};
+use nb_script::streams::{FromRead, FromWrite, Sink, Source};
 use std::env;
 use std::env::FillError;
 use std::io::{ErrorKind, Read, Write};
@@ -89,22 +98,46 @@ where
     let mut reader = FromRead::new(Watched::new(&progress, input));
     let mut writer = FromWrite::new(Watched::new(&progress, output));
     let mut errors = FromWrite::new(Watched::new(&progress, errors));
+    serve_words(
+        process,
+        &progress,
+        words,
+        &mut reader,
+        &mut writer,
+        &mut errors,
+    )
+}
+
+/// Does what `serve_gated` does, for words that it owns.
+fn serve_words<H: Threads + Wait + AllocGlobal + Sync, G: Gate + Sync, R: Source, W: Sink, E: Sink>(
+    rt: &H,
+    gate: &G,
+    words: Result<Vec<String>, OptionFault>,
+    reader: &mut R,
+    writer: &mut W,
+    errors: &mut E,
+) -> u8
+    requires reader { R.failed reader.old ≡ false }
+    requires writer { W.failed writer.old ≡ false }
+    requires errors { E.failed errors.old ≡ false }
+
+    ensures done { result ≡ 0 → HasRunAsAsked (words_had words) (R.remaining reader.old)
+        (R.remaining reader.new) (W.contents writer.old) (W.contents writer.new)
+        ⊎ HasShownHelp (words_had words) (reader.new ≡ reader.old) (W.contents writer.old)
+        (W.contents writer.new) }
+    ensures quiet { result ≡ 0 → errors.new ≡ errors.old }
+
+    ensures failed { result ≢ 0 → HasFailed (words_had words)
+        (streams (R.remaining reader.old) (W.contents writer.old) (E.contents errors.old)
+        (R.failed reader.old) (W.failed writer.old) (E.failed errors.old))
+        (streams (R.remaining reader.new) (W.contents writer.new) (E.contents errors.new)
+        (R.failed reader.new) (W.failed writer.new) (E.failed errors.new))
+        (reader.new ≡ reader.old) result }
+
+    ensures silent { result ≢ 0 → W.failed writer.new ≡ false → writer.new ≡ writer.old }
+{
     match words {
-        Ok(words) => serve_gated(
-            process,
-            &progress,
-            Ok(words.as_slice()),
-            &mut reader,
-            &mut writer,
-            &mut errors,
-        ),
-        Err(fault) => serve_gated(
-            process,
-            &progress,
-            Err(fault),
-            &mut reader,
-            &mut writer,
-            &mut errors,
-        ),
+        Ok(words) => serve_gated(rt, gate, Ok(words.as_slice()), reader, writer, errors),
+        Err(fault) => serve_gated(rt, gate, Err(fault), reader, writer, errors),
     }
 }

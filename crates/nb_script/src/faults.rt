@@ -10,7 +10,7 @@ use itoa::Buffer;
 use thiserror::Error;
 
 /// Why a script was not run to its end.
-#[derive(Clone, Copy, Debug, PartialEq, Eq, Hash, Error)]
+#[derive(Clone, Copy, Debug, PartialEq, Eq, Error)]
 pub enum RunFault {
     #[error("read failed")]
     Read,
@@ -24,7 +24,7 @@ pub enum RunFault {
 }
 
 /// Why the program ends with another status than 0.
-#[derive(Clone, Copy, Debug, PartialEq, Eq, Hash, Error)]
+#[derive(Clone, Copy, Debug, PartialEq, Eq, Error)]
 pub enum ServeFault {
     #[error("bad usage")]
     Usage,

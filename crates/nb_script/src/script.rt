@@ -42,7 +42,7 @@ pub const LINES_MAX: usize = 1 << 20;
 
 /// What is wrong with a line. `docs/script.md` has the order of the checks; the variants don't
 /// stand in it.
-#[derive(Clone, Copy, Debug, PartialEq, Eq, Hash, Error)]
+#[derive(Clone, Copy, Debug, PartialEq, Eq, Error)]
 #[error("{}", self.text())]
 pub enum Cause {
     TooMany,
@@ -78,7 +78,7 @@ impl Cause {
 }
 
 /// The op of a command.
-#[derive(Clone, Copy, Debug, PartialEq, Eq, Hash)]
+#[derive(Clone, Copy, Debug, PartialEq, Eq)]
 pub enum Op {
     Get,
     Put,
@@ -91,7 +91,7 @@ pub enum Op {
 }
 
 /// What a worker is to do: an op with its arguments.
-#[derive(Clone, Copy, Debug, PartialEq, Eq, Hash)]
+#[derive(Clone, Copy, Debug, PartialEq, Eq)]
 pub enum Command {
     Get(Key),
     Put(Key, Num),
@@ -104,7 +104,7 @@ pub enum Command {
 }
 
 /// What a line with words says: a worker's number and its command, or the end of a phase.
-#[derive(Clone, Copy, Debug, PartialEq, Eq, Hash)]
+#[derive(Clone, Copy, Debug, PartialEq, Eq)]
 pub enum Line {
     Command(usize, Command),
     PhaseEnd,

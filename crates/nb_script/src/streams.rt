@@ -22,7 +22,7 @@ use std::io::{Read, Write};
 use thiserror::Error;
 
 /// A read or a write failed.
-#[derive(Clone, Copy, Debug, PartialEq, Eq, Hash, Error)]
+#[derive(Clone, Copy, Debug, PartialEq, Eq, Error)]
 #[error("read or write failed")]
 pub struct Failed;
 

@@ -68,9 +68,11 @@
  * Memory. samvolip_open reserves all tables of the map, and the map keeps them until it is freed.
  * samvolip_open, samvolip_split, samvolip_settle, samvolip_entries, samvolip_renew, samvolip_close
  * and samvolip_ended_entries take memory; no other call does. It is the program's malloc's, but for
- * blocks of a megabyte and more, as tables and lists of large maps are. Those libsamvolip.so and
+ * blocks of 256 KiB and more, as tables and lists of large maps are. Those libsamvolip.so and
  * libsamvolip.a take from the system, in huge pages where it has some, and give back when they are
- * freed, but for two of a size, of 16 MiB at most, while another of it is in use. So a handle is used with the copy of the library that opened its map.
+ * freed, but for two of a size, of 2 to 16 MiB, while another of it is in use; those of less than 2
+ * MiB lie together in 8 MiB of addresses, which are given back with the last of them. So a handle is
+ * used with the copy of the library that opened its map.
  *
  * Versions. samvolip_open tells the library which header the program was compiled with: its version
  * and the sizes of its structs. The library takes each header of its series, from version 0.9.0 on,
@@ -104,10 +106,8 @@ extern "C" {
 #define SAMVOLIP_KEY_MAX (UINT64_MAX - 2)
 #define SAMVOLIP_VALUE_MAX ((UINT64_C(1) << 60) - 1)
 
-/* The most keys that samvolip_shape_for_keys makes room for, and the most for which it makes two
-   tables. */
+/* The most keys that samvolip_shape_for_keys makes room for. */
 #define SAMVOLIP_MOST_KEYS 178956970
-#define SAMVOLIP_FEW_KEYS 349525
 
 /* For how many turns a write by name rests after others came before it. */
 #define SAMVOLIP_REST_TURNS 200
@@ -120,13 +120,13 @@ extern "C" {
 #define SAMVOLIP_MAX_EXPONENT 28
 #define SAMVOLIP_MAX_SLOTS (1 << 30)
 
-/* What samvolip_shape_for_keys goes by past SAMVOLIP_FEW_KEYS: the least exponent, by how much each
-   exponent is above the one before it, the most stripes, the reprobe limit and the chunk. */
-#define SAMVOLIP_MANY_FIRST_EXPONENT 4
-#define SAMVOLIP_MANY_STEP 8
-#define SAMVOLIP_MANY_STRIPES 16
-#define SAMVOLIP_MANY_REPROBES 18
-#define SAMVOLIP_MANY_CHUNK 256
+/* What samvolip_shape_for_keys goes by: the least exponent, by how much each exponent is above the
+   one before it, the most stripes, the reprobe limit and the chunk. */
+#define SAMVOLIP_FOR_KEYS_FIRST_EXPONENT 4
+#define SAMVOLIP_FOR_KEYS_STEP 8
+#define SAMVOLIP_FOR_KEYS_STRIPES 16
+#define SAMVOLIP_FOR_KEYS_REPROBES 18
+#define SAMVOLIP_FOR_KEYS_CHUNK 256
 
 /* What samvolip_shape_for_churn goes by: the least and the greatest exponent. */
 #define SAMVOLIP_CHURN_LEAST 9
@@ -283,12 +283,11 @@ typedef struct samvolip_header {
 /*
  * A shape with room to spare for `most` different keys, and for `seats` threads. The last table has
  * half as many slots again as there are keys, or more. A put is refused as full only if other keys
- * have all slots of the last table. For up to SAMVOLIP_FEW_KEYS there is one table before it, of an
- * eighth of that size, and a stripe for each seat. For more keys, each table before it has a 256th
- * of the slots of the next one, as long as that is 16 slots at least, so that a map that has few
- * keys stays in small tables; and there is a stripe for each seat, up to 16. The map takes 16 bytes
- * for each slot of all tables. For more than SAMVOLIP_MOST_KEYS there is no such shape:
- * samvolip_open refuses what this returns, with SAMVOLIP_E_TABLES.
+ * have all slots of the last table. Each table before it has a 256th of the slots of the next one,
+ * as long as that is 16 slots at least, so that a growth copies little, and a map that has few keys
+ * stays in small tables. There is a stripe for each seat, up to 16. The map takes 16 bytes for each
+ * slot of all tables. For more than SAMVOLIP_MOST_KEYS there is no such shape: samvolip_open refuses
+ * what this returns, with SAMVOLIP_E_TABLES.
  */
 static inline samvolip_shape samvolip_shape_for_keys(uint64_t most, unsigned seats)
 {
@@ -299,21 +298,12 @@ static inline samvolip_shape samvolip_shape_for_keys(uint64_t most, unsigned sea
     while ((UINT64_C(1) << last) < most + most / 2)
         last++;
     shape.seats = seats;
-    if (most <= SAMVOLIP_FEW_KEYS) {
-        shape.exponents[0] = last - 3;
-        shape.exponents[1] = last;
-        shape.tables = 2;
-        shape.stripes = seats;
-        shape.reprobes = 18;
-        shape.chunk = 64;
-        return shape;
-    }
-    shape.tables = (last - SAMVOLIP_MANY_FIRST_EXPONENT) / SAMVOLIP_MANY_STEP + 1;
+    shape.tables = (last - SAMVOLIP_FOR_KEYS_FIRST_EXPONENT) / SAMVOLIP_FOR_KEYS_STEP + 1;
     for (uint32_t g = 0; g < shape.tables; g++)
-        shape.exponents[g] = last - SAMVOLIP_MANY_STEP * (shape.tables - 1 - g);
-    shape.stripes = seats < SAMVOLIP_MANY_STRIPES ? seats : SAMVOLIP_MANY_STRIPES;
-    shape.reprobes = SAMVOLIP_MANY_REPROBES;
-    shape.chunk = SAMVOLIP_MANY_CHUNK;
+        shape.exponents[g] = last - SAMVOLIP_FOR_KEYS_STEP * (shape.tables - 1 - g);
+    shape.stripes = seats < SAMVOLIP_FOR_KEYS_STRIPES ? seats : SAMVOLIP_FOR_KEYS_STRIPES;
+    shape.reprobes = SAMVOLIP_FOR_KEYS_REPROBES;
+    shape.chunk = SAMVOLIP_FOR_KEYS_CHUNK;
     return shape;
 }
 
@@ -345,7 +335,7 @@ static inline samvolip_shape samvolip_shape_for_churn(uint64_t live, uint64_t ev
     for (room = size; room < wanted; room += size - live)
         shape.exponents[shape.tables++] = exponent;
     shape.seats = seats;
-    shape.stripes = seats < SAMVOLIP_MANY_STRIPES ? seats : SAMVOLIP_MANY_STRIPES;
+    shape.stripes = seats < SAMVOLIP_FOR_KEYS_STRIPES ? seats : SAMVOLIP_FOR_KEYS_STRIPES;
     shape.reprobes = UINT32_MAX;
     shape.chunk = 64;
     return shape;
@@ -478,6 +468,20 @@ static inline void samvolip_free(samvolip_seat *seat)
  * Refused: SAMVOLIP_E_KEY_RANGE.
  */
 int samvolip_get(samvolip_seat *seat, uint64_t key, uint64_t *number);
+
+/*
+ * What is at each of `count` keys, in their order: each is a samvolip_get of its own. numbers[i] is
+ * what is at keys[i], or `other` if nothing is there. `room` is how many numbers the array holds, at
+ * least `count`; those behind stay. If the call is refused, nothing happens.
+ *
+ * The loads of many keys are under way at once, so in a map larger than the processor's caches it
+ * takes less time for each key than samvolip_get does.
+ *
+ * Cost: wait-free. That of samvolip_get, and one load more, for each key.
+ * Refused: SAMVOLIP_E_ROOM; SAMVOLIP_E_KEY_RANGE, if one of the keys is none.
+ */
+int samvolip_get_many(samvolip_seat *seat, const uint64_t *keys, size_t count, uint64_t *numbers,
+                      size_t room, uint64_t other);
 
 /*
  * The write behind all others. If what is at the key is as `want` asks, it does what `change` says,

@@ -172,6 +172,17 @@ static inline int samvolip_checked_get(samvolip_seat *seat, uint64_t key, uint64
     return code;
 }
 
+static inline int samvolip_checked_get_many(samvolip_seat *seat, const uint64_t *keys, size_t count,
+                                            uint64_t *numbers, size_t room, uint64_t other)
+{
+    int code;
+    samvolip_check(keys != NULL && numbers != NULL, "samvolip_get_many", "an array is NULL");
+    samvolip_enter(seat, "samvolip_get_many");
+    code = samvolip_get_many(seat, keys, count, numbers, room, other);
+    samvolip_leave(seat);
+    return code;
+}
+
 static inline int samvolip_checked_put_if_match(samvolip_seat *seat, uint64_t key, uint32_t want,
                                                 uint64_t old, uint32_t change, uint64_t number,
                                                 uint32_t tries, samvolip_reply *reply)
@@ -365,6 +376,7 @@ static inline int samvolip_checked_ended_entries(const samvolip_ended *ended,
 #define samvolip_close samvolip_checked_close
 #define samvolip_free samvolip_checked_free
 #define samvolip_get samvolip_checked_get
+#define samvolip_get_many samvolip_checked_get_many
 #define samvolip_put_if_match samvolip_checked_put_if_match
 #define samvolip_try_put samvolip_checked_try_put
 #define samvolip_try_put_if_absent samvolip_checked_try_put_if_absent

@@ -26,7 +26,8 @@
  * Renewals. A write that finds the map two thirds full, or far too large for its keys, puts a new
  * map in its place. Other writes wait meanwhile, and those threads help to copy. Reads go on, but
  * for the moment of the exchange. No reply shows a renewal. A renewal that is refused memory leaves
- * the map as it was.
+ * the map as it was. From 2^17 slots on a map is in eight parts, by bits of the key, of which each
+ * is renewed for itself: then the writes of that part alone wait.
  *
  * Keys are mixed with a secret that is drawn when the map is opened, so that keys which somebody
  * else chooses don't pile up in few places. `keys` in the options says otherwise: SAMVOLIP_KEYS_MIXED
@@ -36,9 +37,9 @@
  * Refusals. A call returns 0 or 1 if it was made, and a negative code if it was refused. A refused
  * call changes nothing. The codes are those of samvolip.h, and SAMVOLIP_E_NESTED and
  * SAMVOLIP_E_OPTIONS. SAMVOLIP_E_OUT_OF_MEMORY of a write means that its key needs a slot, that all
- * are taken, and that a renewal is refused memory: by the system, by `memory` of the options, or
- * since it would need more than 2^28 slots. No call is refused as full or contended, nor for want of
- * a seat.
+ * of its part are taken, and that a renewal is refused memory: by the system, by `memory` of the
+ * options, or since it would need more than 2^28 slots. No call is refused as full or contended, nor
+ * for want of a seat.
  *
  * Signals. A handler that interrupts its thread in the middle of a call of any such map is refused
  * with SAMVOLIP_E_NESTED. Else it may read, and change the number of a key that is there, if its
@@ -83,7 +84,7 @@ enum samvolip_keys {
 /* How a map is opened. 0 stands for the default, which is told last. */
 typedef struct samvolip_map_options {
     uint64_t room;    /* for how many keys there is room at first, and at least: 1000 */
-    uint64_t memory;  /* how many bytes the table takes at most, with the new one of a renewal: any */
+    uint64_t memory;  /* how many bytes the tables take at most, with the new ones of renewals: any */
     uint32_t growth;  /* a renewal makes room for so many times the keys that there are, 2 to 64: 4;
                          from 1,000 to 12,000 keys it makes twice as much, unless it is by hand */
     uint32_t threads; /* how many threads have a seat of their own, up to 240: 64 */
@@ -94,12 +95,12 @@ typedef struct samvolip_map_options {
 
 /* What happened so far, and how large the map is. Times are in nanoseconds. */
 typedef struct samvolip_map_figures {
-    uint64_t renewals;     /* that were made; a clear is none */
+    uint64_t renewals;     /* that were made, also of one part; a clear is none */
     uint64_t refused;      /* renewals that were refused memory */
     uint64_t write_stop;   /* the longest time that writes had to wait for a renewal or the like */
     uint64_t read_stop;    /* the same of reads */
-    uint64_t all_stops;    /* all those times of writes together */
-    uint64_t slots;        /* of the table in use; each takes 16 bytes */
+    uint64_t all_stops;    /* all those times of writes together; those of parts may overlap */
+    uint64_t slots;        /* of the tables in use; each takes 16 bytes */
     uint64_t keys;         /* about how many there are */
     uint64_t own_threads;  /* threads that have a seat of their own */
 } samvolip_map_figures;
@@ -116,7 +117,7 @@ int samvolip_map_open_with(uint32_t version, size_t options_size, size_t figures
  * Makes an empty map. NULL stands for the defaults.
  *
  * Cost: memory for a table, of 32 KiB by default, some 250 bytes for each of the `threads`, and some
- * 10 KiB.
+ * 10 KiB. In parts it is some 250 bytes for each of these in each part.
  * Refused: E_VERSION, E_OPTIONS, E_OUT_OF_MEMORY.
  */
 static inline int samvolip_map_open(const samvolip_map_options *options, samvolip_map **map)
@@ -196,7 +197,7 @@ int samvolip_map_update(samvolip_map *map, uint64_t key, samvolip_updater *updat
 int samvolip_map_size(samvolip_map *map, uint64_t *size);
 
 /* About how many: a guess while others write, and exact while nobody does. A load for each of
-   sixteen words at most. */
+   sixteen words at most, in each part. */
 int samvolip_map_size_estimate(samvolip_map *map, uint64_t *size);
 
 typedef void samvolip_map_visit(void *context, uint64_t key, uint64_t number);

@@ -1,4 +1,4 @@
-/* walks.pml - how long a core of ../src/map.c lives, for spin. README.md says what each name of an #ifdef breaks.
+/* walks.pml - how long a core of a map (../src/endless.h) lives, for spin. README.md says what each name of an #ifdef breaks.
 
    A walk stays in the core in which it began, also when another one has come into its place. Then the core is over, and is freed by
    who ends its last walk, or at once if nobody walks there. Whoever is alone with the map puts another core in, or gives that up and

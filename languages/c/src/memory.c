@@ -1,11 +1,13 @@
 /* memory.c - the memory of libsamvolip.so and libsamvolip.a, in C and not proved. Small blocks are the program's malloc's, as they
    are without this file. Large ones, which the tables of large maps need, are the system's: in huge pages where Linux has some, and
    given back when they are freed. But of a size that is in use two freed blocks are kept for the next ones, up to KEPT: a map that is
-   renewed takes its tables by turns, and need not wait for the system to clear pages. The linker puts these functions in place of those that the library's code calls (--wrap, by the
-   file `links`).
+   renewed takes its tables by turns, and need not wait for the system to clear pages. Blocks of a middling size, which the tables of a
+   map's parts are, lie several of a size in a tray, a large block, so that they are in huge pages, too. The linker puts these
+   functions in place of those that the library's code calls (--wrap, by the file `links`).
 
-   A large block begins at a multiple of a huge page. So nearly all pointers are told at a glance to be malloc's, and the others by
-   the list of large blocks. The list has no lock, so nobody waits for a thread that was stopped, or that a forked child lacks. */
+   A large block begins at a multiple of a huge page, and one in a tray at one of a page. So nearly all pointers are told at a glance to
+   be malloc's, and the others by the list of large blocks. The list has no lock, so nobody waits for a thread that was stopped, or that
+   a forked child lacks. */
 #define _GNU_SOURCE
 #include <stdatomic.h>
 #include <stdbool.h>
@@ -24,8 +26,10 @@ void __wrap_free(void *block);
 void *__wrap_memset(void *at, int byte, size_t size);
 
 #define PAGE ((size_t)1 << 12)
-#define LARGE ((size_t)1 << 20)
 #define HUGE_PAGE ((size_t)1 << 21)
+#define MIDDLING ((size_t)1 << 18)
+#define LARGE HUGE_PAGE
+#define TRAY ((size_t)1 << 23)
 #define KEPT ((size_t)1 << 24) /* the largest block that is kept */
 
 /* The list: a place for each large block. Where all are taken, large blocks are malloc's, too. */
@@ -33,10 +37,13 @@ static struct large {
     _Atomic(uintptr_t) begin; /* 0: the place is free */
     _Atomic(size_t) size;     /* whole pages */
     _Atomic(size_t) kept;     /* 0: somebody has it, or it comes or goes; else how many were kept when it was, this one too */
+    _Atomic(size_t) each;     /* of a tray: the size of its blocks; else 0 */
+    _Atomic(uint64_t) taken;  /* of a tray: a bit for each block that somebody has; 0: it is about to go, and nobody takes one */
 } list[1024];
 static _Atomic(size_t) ever_kept;
 
 enum { PLACES = sizeof list / sizeof *list };
+_Static_assert(TRAY / MIDDLING < 64, "a tray has a bit for each block");
 
 /* The place of the large block that begins there; NULL where none does. */
 static struct large *large_at(const void *at)
@@ -85,7 +92,8 @@ static size_t count_blocks(size_t size, bool are_kept)
 {
     size_t count = 0;
     for (size_t i = 0; i < PLACES; i++)
-        count += atomic_load(&list[i].begin) != 0 && atomic_load(&list[i].size) == size && (atomic_load(&list[i].kept) != 0) == are_kept;
+        count += atomic_load(&list[i].begin) != 0 && atomic_load(&list[i].size) == size && atomic_load(&list[i].each) == 0
+            && (atomic_load(&list[i].kept) != 0) == are_kept;
     return count;
 }
 
@@ -110,15 +118,83 @@ static void *new_pages(size_t size)
     if (before > 0)
         munmap(room, before);
     munmap(room + before + size, HUGE_PAGE - before);
-    if (size >= HUGE_PAGE)
-        madvise(room + before, size, MADV_HUGEPAGE);
+    madvise(room + before, size, MADV_HUGEPAGE);
     return room + before;
 }
+
+/* ---- trays --------------------------------------------------------------------------------- */
+
+/* The tray in which that is; NULL where it is in none. */
+static struct large *tray_of(const void *at)
+{
+    uintptr_t place = (uintptr_t)at;
+    if (place % PAGE != 0)
+        return NULL;
+    for (size_t i = 0; i < PLACES; i++)
+        if (atomic_load(&list[i].each) != 0 && place - atomic_load(&list[i].begin) < TRAY)
+            return &list[i];
+    return NULL;
+}
+
+/* Gives a block back to its tray, which goes with its last one. Once no block is taken nobody takes one any more. */
+static void put_back(struct large *tray, uint64_t block)
+{
+    if (atomic_fetch_and(&tray->taken, ~block) != block)
+        return;
+    atomic_store(&tray->each, 0);
+    give_back(tray);
+}
+
+/* Takes a block of a tray; NULL where all are taken, or the tray isn't one of such blocks any more. */
+static void *take_from(struct large *tray, size_t each)
+{
+    uint64_t were = atomic_load(&tray->taken), block;
+    size_t count = TRAY / each;
+    do {
+        block = ~were & (were + 1); /* the lowest one that is free, so that as few pages as may be are touched */
+        if (were == 0 || block >= (uint64_t)1 << count)
+            return NULL;
+    } while (!atomic_compare_exchange_weak(&tray->taken, &were, were | block));
+    if (atomic_load(&tray->each) == each) /* it stays so while the block is taken */
+        return (char *)atomic_load(&tray->begin) + (size_t)__builtin_ctzll(block) * each;
+    put_back(tray, block);
+    return NULL;
+}
+
+/* A block of a new tray. */
+static void *new_tray(size_t each)
+{
+    void *block = new_pages(TRAY);
+    if (block == NULL)
+        return NULL;
+    if (!is_listed(block, TRAY)) {
+        munmap(block, TRAY);
+        return NULL;
+    }
+    struct large *tray = large_at(block);
+    atomic_store(&tray->taken, 1);
+    atomic_store(&tray->each, each);
+    return block;
+}
+
+static void *middling(size_t size)
+{
+    size_t each = (size + PAGE - 1) / PAGE * PAGE;
+    for (size_t i = 0; i < PLACES; i++) {
+        void *block = atomic_load(&list[i].each) == each ? take_from(&list[i], each) : NULL;
+        if (block != NULL)
+            return block;
+    }
+    void *block = new_tray(each);
+    return block ? block : __real_malloc(size);
+}
+
+/* ---- what stands for the C library's ------------------------------------------------------- */
 
 void *__wrap_malloc(size_t size)
 {
     if (size < LARGE)
-        return __real_malloc(size);
+        return size < MIDDLING ? __real_malloc(size) : middling(size);
     if (size > PTRDIFF_MAX - HUGE_PAGE)
         return NULL;
     size_t whole = (size + PAGE - 1) / PAGE * PAGE;
@@ -134,7 +210,11 @@ void *__wrap_malloc(size_t size)
 
 void __wrap_free(void *block)
 {
-    struct large *large = large_at(block);
+    struct large *tray = tray_of(block), *large = tray ? NULL : large_at(block);
+    if (tray != NULL) {
+        put_back(tray, (uint64_t)1 << ((uintptr_t)block - atomic_load(&tray->begin)) / atomic_load(&tray->each));
+        return;
+    }
     if (large == NULL) {
         __real_free(block);
         return;
@@ -151,12 +231,13 @@ void __wrap_free(void *block)
 /* What malloc gave stays with malloc, however much it grows. */
 void *__wrap_realloc(void *block, size_t size)
 {
-    const struct large *large = large_at(block);
-    if (large == NULL)
+    const struct large *tray = tray_of(block), *large = tray ? NULL : large_at(block);
+    if (tray == NULL && large == NULL)
         return __real_realloc(block, size);
+    size_t had = tray ? tray->each : large->size;
     void *other = __wrap_malloc(size);
     if (other != NULL) {
-        memcpy(other, block, size < large->size ? size : large->size);
+        memcpy(other, block, size < had ? size : had);
         __wrap_free(block);
     }
     return other;
@@ -168,8 +249,10 @@ void *__wrap_memset(void *at, int byte, size_t size)
 {
     const struct large *large = byte == 0 && size >= LARGE ? large_at(at) : NULL;
     size_t whole = size / PAGE * PAGE;
-    if (large == NULL || madvise(at, whole, MADV_DONTNEED) != 0)
-        return __real_memset(at, byte, size);
+    if (large == NULL || madvise(at, whole, MADV_DONTNEED) != 0) {
+        __real_memset(at, byte, size); /* a call, and no jump: a thread sanitizer that doesn't see the list knows blocks by this function */
+        return at;
+    }
     __real_memset((char *)at + whole, 0, size - whole);
     return at;
 }

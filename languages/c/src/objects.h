@@ -1,4 +1,4 @@
-/* objects.h - what map.c has of objects.c: each map begins with its `objects`. */
+/* objects.h - what a map has of objects.c: each map begins with its `objects`. */
 #ifndef OBJECTS_H
 #define OBJECTS_H
 #include "samvolip_objects.h"

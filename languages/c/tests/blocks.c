@@ -11,6 +11,7 @@
 #include <stdint.h>
 #include <string.h>
 #include <sys/mman.h>
+#include <sys/prctl.h>
 #include <sys/syscall.h>
 #include <unistd.h>
 
@@ -47,7 +48,7 @@ static unsigned char *taken(size_t size)
 
 static void new_blocks(void)
 {
-    static const size_t sizes[] = {MIB, MIB + 8, 2 * MIB - 1, 2 * MIB, 5 * MIB + 4097};
+    static const size_t sizes[] = {2 * MIB, 2 * MIB + 8, 3 * MIB - 1, 4 * MIB, 5 * MIB + 4097};
     for (int turn = 0; turn < 3; turn++)
         for (size_t i = 0; i < sizeof sizes / sizeof *sizes; i++) {
             unsigned char *block = taken(sizes[i]), *small = taken(MIB - 1);
@@ -72,7 +73,7 @@ static void cleared_part(unsigned char *block, size_t whole, size_t from, size_t
 
 static void clears(unsigned char *block, size_t whole)
 {
-    static const size_t sizes[] = {0, 1, 4096, MIB - 1, MIB, MIB + 1, 2 * MIB + 8, 4 * MIB - 4096};
+    static const size_t sizes[] = {0, 1, 4096, MIB, 2 * MIB - 1, 2 * MIB, 2 * MIB + 8, 4 * MIB - 4096};
     for (size_t i = 0; i < sizeof sizes / sizeof *sizes; i++) {
         cleared_part(block, whole, 0, sizes[i]);
         cleared_part(block, whole, 16, sizes[i]);
@@ -99,7 +100,7 @@ static void cleared_blocks(void)
 
 static void moved_blocks(void)
 {
-    static const size_t sizes[] = {1, MIB - 1, MIB, 3 * MIB + 5, 3 * MIB + 6, 9 * MIB, MIB + 1, 100};
+    static const size_t sizes[] = {1, MIB / 4 - 1, MIB / 4, MIB / 2 + 16, 2 * MIB - 1, 2 * MIB, 3 * MIB + 5, 3 * MIB + 6, 9 * MIB, MIB + 1, 100};
     for (size_t i = 0; i < sizeof sizes / sizeof *sizes; i++)
         for (size_t j = 0; j < sizeof sizes / sizeof *sizes; j++) {
             size_t both = sizes[i] < sizes[j] ? sizes[i] : sizes[j];
@@ -109,28 +110,34 @@ static void moved_blocks(void)
             memset(block, 4, sizes[j]);
             free(block);
         }
-    unsigned char *block = taken(MIB);
-    memset(block, 5, MIB);
-    EXPECT(realloc(block, SIZE_MAX / 2) == NULL && is_all(block, 5, MIB));
-    free(block);
-    EXPECT((block = realloc(NULL, MIB)) != NULL);
+    for (size_t size = MIB; size <= 2 * MIB; size += MIB) {
+        unsigned char *block = taken(size);
+        memset(block, 5, size);
+        EXPECT(realloc(block, SIZE_MAX / 2) == NULL && is_all(block, 5, size));
+        free(block);
+    }
+    unsigned char *block;
+    EXPECT((block = realloc(NULL, 2 * MIB)) != NULL);
     free(block);
 }
 
-/* More than are listed: the rest is malloc's. */
+/* More than are listed: the rest is malloc's. They are in small pages, so that not all of them are taken. */
 static void many_blocks(void)
 {
     static unsigned char *blocks[MANY];
+    EXPECT(prctl(PR_SET_THP_DISABLE, 1, 0, 0, 0) == 0);
     for (int turn = 0; turn < 2; turn++) {
         for (int i = 0; i < MANY; i++)
-            *(blocks[i] = taken(MIB + (size_t)i)) = (unsigned char)i;
+            *(blocks[i] = taken(2 * MIB + (size_t)i)) = (unsigned char)i;
         EXPECT((blocks[MANY - 1] = realloc(blocks[MANY - 1], 3 * MIB)) != NULL);
         memset(blocks[MANY - 2] + 1, 0, MIB);
+        EXPECT((blocks[MANY - 3] = realloc(blocks[MANY - 3], MIB)) != NULL);
         for (int i = MANY - 1; i >= 0; i -= 2)
             EXPECT(*blocks[i] == (unsigned char)i);
         for (int i = 0; i < MANY; i++)
             free(blocks[i]);
     }
+    EXPECT(prctl(PR_SET_THP_DISABLE, 0, 0, 0, 0) == 0);
 }
 
 /* Of a size that is in use two freed blocks are kept, and taken again in their order. With the last one of its size in use they go. */
@@ -152,6 +159,32 @@ static void kept_blocks(size_t size)
     free(blocks[3]);
     free(blocks[0]);
     EXPECT(IS_SANITIZED || expect_mebibytes().all < before - 4 * mebibytes + 1);
+}
+
+enum { SOME = 70 }; /* more than two trays have room for */
+
+/* Those of a middling size lie beside each other, the lowest free one first, and their pages go with the last of them. */
+static void middling_blocks(size_t size)
+{
+    static unsigned char *blocks[SOME];
+    const size_t each = (size + 4095) / 4096 * 4096, count = 8 * MIB / each;
+    double before = expect_mebibytes().all;
+    for (size_t i = 0; i < SOME; i++) {
+        blocks[i] = taken(size);
+        EXPECT(i % count == 0 ? is_large(blocks[i]) : blocks[i] == blocks[i - 1] + each);
+        EXPECT(is_all(blocks[i], 0, size));
+        memset(blocks[i], (int)i + 1, size);
+    }
+    for (size_t i = 0; i < SOME; i++)
+        EXPECT(is_all(blocks[i], (int)i + 1, size));
+    free(blocks[5]);
+    free(blocks[3]);
+    EXPECT(taken(size) == blocks[3] && taken(size) == blocks[5] && is_all(blocks[5], 6, size));
+    memset(blocks[5] + 1, 0, size - 2);
+    EXPECT(blocks[5][0] == 6 && is_all(blocks[5] + 1, 0, size - 2) && blocks[5][size - 1] == 6);
+    for (size_t i = 0; i < SOME; i++)
+        free(blocks[i]);
+    EXPECT(IS_SANITIZED || expect_mebibytes().all < before + 1);
 }
 
 /* Larger ones aren't kept. */
@@ -204,7 +237,9 @@ static void *takes_blocks(void *given)
             EXPECT(block[0] == 0 && block[sizes[at] - 1] == taker->mark);
             free(block);
         }
-        sizes[at] = MIB + state / 4 % (state % 16 < 8 ? 8 : MIB); /* often of one size, so that freed blocks are kept and taken */
+        sizes[at] = 2 * MIB + state / 4 % (state % 16 < 8 ? 8 : MIB); /* often of one size, so that freed blocks are kept and taken */
+        if (state / 16 % 2)
+            sizes[at] = MIB / 4 + state / 32 % 3 * 4096; /* few of each, so that trays come and go */
         blocks[at] = block = taken(sizes[at]);
         block[0] = block[sizes[at] - 1] = taker->mark;
     }
@@ -237,6 +272,10 @@ int main(int count, char **words)
     many_blocks();
     kept_blocks(2 * MIB);
     kept_blocks(16 * MIB);
+    middling_blocks(MIB / 4);
+    middling_blocks(MIB / 2 + 24);
+    middling_blocks(MIB + 24);
+    middling_blocks(2 * MIB - 1);
     blocks_that_are_too_large_to_keep();
     blocks_of_others();
     in_threads(turns);

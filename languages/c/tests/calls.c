@@ -80,15 +80,16 @@ static void makes_shapes_for_keys(void)
         unsigned seats;
         samvolip_shape shape;
     } made[] = {
-        {0, 1, {{2, 5}, 2, 1, 1, 18, 64}},
-        {21, 4, {{2, 5}, 2, 4, 4, 18, 64}},
-        {22, 4, {{3, 6}, 2, 4, 4, 18, 64}},
-        {1000, 8, {{8, 11}, 2, 8, 8, 18, 64}},
-        {65536, 9, {{14, 17}, 2, 9, 9, 18, 64}},
-        {174763, 17, {{15, 18}, 2, 17, 17, 18, 64}},
-        {174764, 100, {{16, 19}, 2, 100, 100, 18, 64}},
-        {SAMVOLIP_FEW_KEYS, 256, {{16, 19}, 2, 256, 256, 18, 64}},
-        {SAMVOLIP_FEW_KEYS + 1, 1, {{4, 12, 20}, 3, 1, 1, 18, 256}},
+        {0, 1, {{5}, 1, 1, 1, 18, 256}},
+        {21, 4, {{5}, 1, 4, 4, 18, 256}},
+        {22, 4, {{6}, 1, 4, 4, 18, 256}},
+        {1000, 8, {{11}, 1, 8, 8, 18, 256}},
+        {1365, 8, {{11}, 1, 8, 8, 18, 256}},
+        {1366, 9, {{4, 12}, 2, 9, 9, 18, 256}},
+        {65536, 9, {{9, 17}, 2, 9, 9, 18, 256}},
+        {174763, 17, {{10, 18}, 2, 17, 16, 18, 256}},
+        {174764, 100, {{11, 19}, 2, 100, 16, 18, 256}},
+        {349526, 256, {{4, 12, 20}, 3, 256, 16, 18, 256}},
         {699051, 8, {{4, 12, 20}, 3, 8, 8, 18, 256}},
         {699052, 16, {{5, 13, 21}, 3, 16, 16, 18, 256}},
         {1000000, 17, {{5, 13, 21}, 3, 17, 16, 18, 256}},
@@ -225,7 +226,7 @@ static void has_room_for_keys(void)
 {
     for (uint64_t most = 0; most < 3000; most += 7)
         has_room_for(most, samvolip_shape_for_keys(most, 1));
-    has_room_for(SAMVOLIP_FEW_KEYS, samvolip_shape_for_keys(SAMVOLIP_FEW_KEYS, 1));
+    has_room_for(349525, samvolip_shape_for_keys(349525, 1));
     has_room_for(699051, samvolip_shape_for_keys(699051, 1));
 }
 
@@ -259,6 +260,37 @@ static void puts_and_gets(samvolip_seat *seat)
     EXPECT(reply.had == 0 && reply.before == 0 && reply.matched == 1);
     EXPECT(samvolip_size_estimate(seat) == 1);
     EXPECT(samvolip_generation(seat) == 0);
+}
+
+/* Reads of many keys find what reads of each find, in several tables and for more keys than are read
+   at a time; twice the same key; and no key at all. */
+static void gets_many(void)
+{
+    enum { MANY = 300 };
+    const samvolip_shape shape = {{2, 4, 9}, 3, 1, 1, 4, 4};
+    uint64_t keys[MANY], numbers[MANY + 1], number;
+    samvolip_seat seat = SAMVOLIP_SEAT_INIT;
+    EXPECT(samvolip_open(&shape, &seat) == SAMVOLIP_OK);
+    for (uint64_t i = 0; i < MANY; i++) {
+        keys[i] = samvolip_mix(i % 290) >> 1;
+        if (i % 3)
+            EXPECT(samvolip_put(&seat, keys[i], i % 290, NULL) >= 0);
+    }
+    numbers[MANY] = 5;
+    EXPECT(samvolip_get_many(&seat, keys, MANY, numbers, MANY + 1, UINT64_MAX) == SAMVOLIP_OK);
+    for (int i = 0; i < MANY; i++) {
+        int had = samvolip_get(&seat, keys[i], &number);
+        EXPECT(numbers[i] == (had ? number : UINT64_MAX));
+    }
+    EXPECT(numbers[MANY] == 5);
+    EXPECT(samvolip_get_many(&seat, keys, 0, numbers, 0, 7) == SAMVOLIP_OK);
+    EXPECT(numbers[12] == UINT64_MAX && numbers[13] == 13);
+    /* refused, it does nothing */
+    EXPECT(samvolip_get_many(&seat, keys, MANY, numbers, MANY - 1, 7) == SAMVOLIP_E_ROOM);
+    keys[MANY - 1] = SAMVOLIP_KEY_MAX + 1;
+    EXPECT(samvolip_get_many(&seat, keys, MANY, numbers, MANY, 7) == SAMVOLIP_E_KEY_RANGE);
+    EXPECT(numbers[12] == UINT64_MAX && numbers[13] == 13);
+    samvolip_free(&seat);
 }
 
 /* The writes by their names with tries: each answer and refusal, except a contended one. */
@@ -865,6 +897,7 @@ int main(void)
     samvolip_free(&seat);
     EXPECT(seat.handle == NULL);
     refuses_when_full();
+    gets_many();
     tells_how_full();
     walks_within_a_walk();
     lists_parts();

@@ -19,6 +19,10 @@ static void writes_and_reads(samvolip_seat *mine, samvolip_seat *yours)
     }
     EXPECT(samvolip_put(yours, 7, 70, &number) == SAMVOLIP_PRESENT && number == 8);
     EXPECT(samvolip_get(mine, 7, &number) == SAMVOLIP_PRESENT && number == 70);
+    const uint64_t keys[2] = {8, KEYS};
+    uint64_t numbers[2] = {99, 99};
+    EXPECT(samvolip_get_many(mine, keys, 2, numbers, 2, 5) == SAMVOLIP_OK);
+    EXPECT(numbers[0] == 9 && numbers[1] == 5);
     EXPECT(samvolip_try_remove(mine, 6, 1, &number) == SAMVOLIP_PRESENT && number == 7);
     EXPECT(samvolip_try_put_if_absent(yours, 6, 3, 1, &number) == SAMVOLIP_ABSENT && number == 0);
     EXPECT(samvolip_try_add(mine, 6, 3, 1, &number) == SAMVOLIP_PRESENT && number == 3);

@@ -17,6 +17,13 @@
 #include <time.h>
 #include <unistd.h>
 
+/* Whether a map is in parts when it is small still, as -DDIVIDED_FROM says to the sources that are built with this. */
+#ifdef DIVIDED_FROM
+enum { IS_DIVIDED_EARLY = true };
+#else
+enum { IS_DIVIDED_EARLY = false };
+#endif
+
 enum { MOST_WORKERS = 300, ARRIVE = 40, SHARED_KEYS = 100, KEPT = 40, PAIRS = 1000, PUBLISHED = 2000, OWN = 100000 };
 
 static double seconds = 0.35;
@@ -549,12 +556,12 @@ static void a_map_of_few_keys_grows_faster(void)
     EXPECT(samvolip_map_open(&options, &more) == SAMVOLIP_OK);
     for (uint64_t key = 0; key < 1500; key++)
         EXPECT(samvolip_map_put(map, key, 0, NULL) == SAMVOLIP_ABSENT && samvolip_map_put(more, key, 0, NULL) == SAMVOLIP_ABSENT);
-    EXPECT(figures_of(map).slots == 8192 && figures_of(more).slots == 16384);
+    EXPECT(IS_DIVIDED_EARLY || (figures_of(map).slots == 8192 && figures_of(more).slots == 16384)); /* parts grow one by one */
     EXPECT(samvolip_map_renew(map, 0) == SAMVOLIP_OK && samvolip_map_renew(more, 0) == SAMVOLIP_OK);
     EXPECT(figures_of(map).slots == 4096 && figures_of(more).slots == 8192);
     for (uint64_t key = 1500; key < 40000; key++)
         EXPECT(samvolip_map_put(more, key, 0, NULL) == SAMVOLIP_ABSENT);
-    EXPECT(figures_of(more).slots == 65536);
+    EXPECT(IS_DIVIDED_EARLY || figures_of(more).slots == 65536);
     samvolip_map_free(map);
     samvolip_map_free(more);
 }
@@ -1114,6 +1121,186 @@ static void a_walk_stays_with_what_was_there(void)
     samvolip_map_free(map);
 }
 
+/* ---- parts --------------------------------------------------------------------------------- */
+
+enum { WAVE = 20000, DIVIDED = 1 << 17 }; /* keys of each of four threads; slots that a map of one part hasn't */
+static atomic_ullong most_slots;
+
+/* Keys of its own come, are there, and go again. */
+static void rise_and_fall(struct worker *worker)
+{
+    uint64_t number;
+    do {
+        for (uint64_t turn = 0; turn < WAVE; turn++)
+            EXPECT(samvolip_map_put(worker->map, own_key(worker, turn), turn, NULL) == SAMVOLIP_ABSENT);
+        const uint64_t slots = figures_of(worker->map).slots;
+        most_slots = slots > most_slots ? slots : most_slots;
+        for (uint64_t turn = 0; turn < WAVE; turn++)
+            EXPECT(samvolip_map_get(worker->map, own_key(worker, turn), &number) == SAMVOLIP_PRESENT && number == turn);
+        for (uint64_t turn = 0; turn < WAVE; turn++) {
+            EXPECT(samvolip_map_add(worker->map, turn % SHARED_KEYS, 1, NULL) >= 0);
+            EXPECT(samvolip_map_remove(worker->map, own_key(worker, turn), &number) == SAMVOLIP_PRESENT && number == turn);
+        }
+        worker->added += WAVE;
+        worker->calls += 4 * WAVE;
+    } while (goes_on());
+}
+
+/* The map is divided and is one part again, more than once, while threads write. */
+static void a_map_divides_and_joins_while_threads_write(void)
+{
+    for (uint32_t keys = SAMVOLIP_KEYS_SECRET; keys <= SAMVOLIP_KEYS_AS_THEY_ARE; keys += 2) {
+        samvolip_map *map = open_map(1, keys ? 3 : 8, keys);
+        work_by_the_clock(map, 4, rise_and_fall);
+        all_is_there(map, 4, 0);
+        EXPECT(most_slots >= DIVIDED && figures_of(map).renewals > 8);
+        tell("waves", map, 4);
+        for (uint64_t key = 0; key < SHARED_KEYS; key++)
+            EXPECT(samvolip_map_remove(map, key, NULL) == SAMVOLIP_PRESENT);
+        for (uint64_t key = 0; key < 20000; key++) /* so that each part is looked at */
+            EXPECT(samvolip_map_put(map, key, 0, NULL) == SAMVOLIP_ABSENT && samvolip_map_remove(map, key, NULL) == SAMVOLIP_PRESENT);
+        EXPECT(figures_of(map).slots <= 64); /* less than if each part had the smallest table */
+        samvolip_map_free(map);
+    }
+}
+
+/* The first thread renews the map by hand, so that it is divided and joined, and clears it. The second one counts, lists and walks.
+   The others write. */
+static void change_parts_or_write(struct worker *worker)
+{
+    for (unsigned turn = 0; goes_on() || turn < 4; turn++) {
+        if (worker->number == 0) {
+            EXPECT(samvolip_map_renew(worker->map, turn % 2 ? 1 : 100000) == SAMVOLIP_OK);
+            worker->calls++;
+        } else if (worker->number == 1) {
+            size_t count, shown;
+            uint64_t size = size_of(worker->map), about;
+            samvolip_entry *entries = entries_of(worker->map, &count), *more = malloc((count + 1000) * sizeof *more);
+            samvolip_map_walk *walk;
+            are_pairs(entries, count);
+            EXPECT(samvolip_map_size_estimate(worker->map, &about) == SAMVOLIP_OK);
+            EXPECT(size < BASE + 1000 && about < BASE + 1000 && count < BASE + 1000 && size >= BASE && count >= BASE && about >= BASE);
+            EXPECT(more != NULL && samvolip_map_walk_begin(worker->map, &walk) == SAMVOLIP_OK);
+            shown = walked(walk, more, count + 1000);
+            EXPECT(shown >= BASE);
+            for (size_t i = 1; i < shown; i++)
+                EXPECT(more[i - 1].key < more[i].key);
+            samvolip_map_walk_end(walk);
+            free(entries);
+            free(more);
+        } else {
+            add_pair(worker);
+            churn(worker);
+        }
+    }
+}
+
+/* BASE keys stay. */
+static void sizes_lists_and_walks_are_whole_through_divisions(void)
+{
+    const uint32_t seats[] = {8, 2};
+    for (int round = 0; round < 2; round++) {
+        samvolip_map *map = open_map(1, seats[round], 0);
+        for (uint64_t key = 0; key < BASE; key++)
+            EXPECT(samvolip_map_put(map, OWN / 2 + key, key, NULL) == SAMVOLIP_ABSENT);
+        work_by_the_clock(map, 5, change_parts_or_write);
+        all_is_there(map, 5, 0);
+        tell("divisions", map, 5);
+        samvolip_map_free(map);
+    }
+}
+
+/* Nobody writes: each estimate is exact, also one that a division comes upon. */
+static void estimate_meanwhile(struct worker *worker)
+{
+    uint64_t about = 0;
+    for (unsigned turn = 0; goes_on() || turn < 10; turn++)
+        if (worker->number == 0)
+            EXPECT(samvolip_map_renew(worker->map, turn % 2 ? 1 : 100000) == SAMVOLIP_OK);
+        else
+            EXPECT(samvolip_map_size_estimate(worker->map, &about) == SAMVOLIP_OK && about == BASE);
+}
+
+static void an_estimate_is_exact_through_divisions(void)
+{
+    samvolip_map *map = open_map(1, 2, 0);
+    for (uint64_t key = 0; key < BASE; key++)
+        EXPECT(samvolip_map_put(map, key, key, NULL) == SAMVOLIP_ABSENT);
+    work_by_the_clock(map, 3, estimate_meanwhile);
+    tell("estimates", map, 3);
+    samvolip_map_free(map);
+}
+
+/* Walks that began before a division, within it and after it show what there was. */
+static void walks_stay_through_a_division_and_back(void)
+{
+    enum { COUNT = 30000, TIMES = 5 };
+    const uint64_t rooms[TIMES] = {100000, 1, 200000, 100000, 1};
+    samvolip_map *map = open_map(1, 1, 0);
+    samvolip_map_walk *walks[TIMES + 1];
+    samvolip_entry *entries = malloc(COUNT * sizeof *entries);
+    EXPECT(entries != NULL);
+    for (uint64_t key = 0; key < COUNT; key++)
+        EXPECT(samvolip_map_put(map, key, key, NULL) == SAMVOLIP_ABSENT);
+    for (int i = 0; i < TIMES; i++) {
+        EXPECT(samvolip_map_walk_begin(map, &walks[i]) == SAMVOLIP_OK);
+        for (int first = 0; first <= 100 * i; first++)
+            EXPECT(samvolip_map_walk_next(walks[i], &entries[first].key, &entries[first].number) == SAMVOLIP_PRESENT);
+        EXPECT(samvolip_map_renew(map, rooms[i]) == SAMVOLIP_OK);
+    }
+    EXPECT(samvolip_map_walk_begin(map, &walks[TIMES]) == SAMVOLIP_OK);
+    EXPECT(samvolip_map_clear(map, NULL, NULL) == SAMVOLIP_OK && figures_of(map).slots == 32);
+    for (int i = TIMES; i >= 0; i--) {
+        const size_t before = i < TIMES ? 100 * (size_t)i + 1 : 0;
+        EXPECT(walked(walks[i], entries, COUNT) == COUNT - before);
+        for (size_t at = 0; at < COUNT - before; at++)
+            EXPECT(entries[at].number == entries[at].key && (at == 0 || entries[at - 1].key < entries[at].key));
+        samvolip_map_walk_end(walks[i]);
+    }
+    free(entries);
+    samvolip_map_free(map);
+}
+
+/* Keys that all belong to one part of a divided map, as it mixes nothing and multiplies by this number to tell the parts. */
+static void keys_of_one_part_are_no_trouble(void)
+{
+    enum { COUNT = 40000 };
+    samvolip_map *map = open_map(1, 1, SAMVOLIP_KEYS_AS_THEY_ARE);
+    uint64_t count = 0, key = 0, number;
+    uint64_t *keys = malloc(COUNT * sizeof *keys);
+    EXPECT(keys != NULL);
+    for (; count < COUNT; key++)
+        if (key * UINT64_C(0x9e3779b97f4a7c15) >> 60 == 5)
+            keys[count++] = key;
+    for (uint64_t i = 0; i < COUNT; i++)
+        EXPECT(samvolip_map_put(map, keys[i], i, NULL) == SAMVOLIP_ABSENT);
+    EXPECT(samvolip_map_renew(map, 0) == SAMVOLIP_OK && size_of(map) == COUNT);
+    for (uint64_t i = 0; i < COUNT; i++)
+        EXPECT(samvolip_map_get(map, keys[i], &number) == SAMVOLIP_PRESENT && number == i);
+    for (uint64_t i = 0; i < COUNT; i++)
+        EXPECT(samvolip_map_remove(map, keys[i], &number) == SAMVOLIP_PRESENT && number == i);
+    EXPECT(size_of(map) == 0);
+    free(keys);
+    samvolip_map_free(map);
+}
+
+/* A map that is opened with much room is so large from the beginning, and after a clear. */
+static void a_map_with_much_room_keeps_it(void)
+{
+    samvolip_map *map = open_map(200000, 2, 0);
+    for (int turn = 0; turn < 2; turn++) {
+        const samvolip_map_figures was = figures_of(map);
+        for (uint64_t key = 0; key < 100000; key++)
+            EXPECT(samvolip_map_put(map, key, key, NULL) == SAMVOLIP_ABSENT);
+        for (uint64_t key = 0; key < 100000; key++)
+            EXPECT(samvolip_map_remove(map, key, NULL) == SAMVOLIP_PRESENT);
+        EXPECT(figures_of(map).slots == was.slots && was.slots >= 300000 && figures_of(map).renewals == 0);
+        EXPECT(samvolip_map_clear(map, NULL, NULL) == SAMVOLIP_OK);
+    }
+    EXPECT(figures_of(map).slots >= 300000);
+    samvolip_map_free(map);
+}
+
 /* ---- forks --------------------------------------------------------------------------------- */
 
 /* With less of the processors than the parent and its children, so that these are many. */
@@ -1228,8 +1415,8 @@ static void children_and_parents_go_on(void)
 /* ---- signals ------------------------------------------------------------------------------- */
 
 /* Handlers add to a key of one map, ask another one, which is cleared, for its size, and call so many that a thread forgets where it
-   has a seat of the first. */
-enum { CALLED = 16 };
+   has a seat of the first: it remembers 64, each in the place of the one that was opened 64 maps before. */
+enum { CALLED = 16, REMEMBERED = 64, TWINS = 10 };
 static samvolip_map *signalled, *asked, *called[CALLED];
 static atomic_ullong made, nested;
 static atomic_bool is_sent;
@@ -1279,11 +1466,11 @@ static void handle(int signal)
     errno = saved;
 }
 
-/* Maps that may have one place in what the thread remembers: none answers for another. */
+/* Maps that have one place in what the thread remembers: none answers for another. */
 static void call_two(unsigned i)
 {
     uint64_t number;
-    for (unsigned one = i; one < CALLED; one += CALLED / 2)
+    for (unsigned one = i; one < CALLED; one += TWINS)
         EXPECT(samvolip_map_get(called[one], 5, &number) == SAMVOLIP_PRESENT && number == one);
 }
 
@@ -1297,7 +1484,7 @@ static void call_between_signals(struct worker *worker)
         const uint64_t choice = random_from(&worker->state);
         samvolip_map_walk *walk;
         churn(worker);
-        call_two(choice / 16 % (CALLED / 2));
+        call_two(choice / 16 % (CALLED - TWINS));
         EXPECT(samvolip_map_put(asked, choice % SHARED_KEYS, 0, NULL) >= 0);
         EXPECT(samvolip_map_walk_begin(asked, &walk) == SAMVOLIP_OK);
         samvolip_map_walk_end(walk);
@@ -1315,6 +1502,8 @@ static void handlers_are_refused_in_the_middle_of_calls(void)
         uint64_t state = 1;
         signalled = open_map(1, seats[round], 0), asked = open_map(1, seats[1 - round], 0);
         for (unsigned i = 0; i < CALLED; i++) {
+            for (unsigned others = i == CALLED / 2 ? REMEMBERED - TWINS : 0; others > 0; others--)
+                samvolip_map_free(open_map(1, 1, 0));
             called[i] = open_map(1, 4, 0);
             EXPECT(samvolip_map_put(called[i], 5, i, NULL) == SAMVOLIP_ABSENT);
             samvolip_map_leave(called[i]);
@@ -1447,7 +1636,7 @@ static void memory_of_the_options_is_the_most(void)
         uint32_t growth;
         uint64_t memory, slots;
     } cases[] = {{2, 16 * (1024 + 2048), 2048}, {2, 16 * (512 + 2048) - 1, 1024}, {64, 16 * (1024 + 2048), 2048}};
-    for (int i = 0; i < 3; i++) {
+    for (int i = 0; i < 3 && !IS_DIVIDED_EARLY; i++) { /* a map in parts refuses a key whose part is full */
         const samvolip_map_options options = {.room = 1, .memory = cases[i].memory, .growth = cases[i].growth, .threads = 3};
         samvolip_map *map;
         EXPECT(samvolip_map_open(&options, &map) == SAMVOLIP_OK);
@@ -1455,7 +1644,37 @@ static void memory_of_the_options_is_the_most(void)
     }
 }
 
-/* Built with fewer slots at most than a table has, as -DMOST_EXPONENT says to map.c. */
+/* A map in parts has no more slots than its memory, either, while its parts are renewed side by side. It refuses a key when the slots
+   of that key's part are taken, which are about as many as those of each other part, or half of them; and goes on once keys went. */
+static void memory_bounds_all_parts_together(void)
+{
+    const uint64_t most = 400000;
+    const samvolip_map_options options = {.room = 1, .memory = 16 * most, .growth = 2, .threads = 3};
+    samvolip_map *map;
+    uint64_t first = 0;
+    EXPECT(samvolip_map_open(&options, &map) == SAMVOLIP_OK);
+    for (int turn = 0; turn < 3; turn++) {
+        uint64_t put = 0, number;
+        begin_work(map, 4, put_until_refused);
+        end_work(4);
+        for (unsigned i = 0; i < 4; i++) {
+            put += workers[i].turn;
+            for (uint64_t key = 0; key < workers[i].turn; key++)
+                EXPECT(samvolip_map_get(map, key * 4 + i, &number) == SAMVOLIP_PRESENT && number == key);
+        }
+        first = turn ? first : put;
+        EXPECT(size_of(map) == put && figures_of(map).slots <= most && put > most / 4 && figures_of(map).refused > 0);
+        EXPECT(put > first / 5 * 4); /* what was reserved for the tables that are gone is there again */
+        for (unsigned i = 0; i < 4; i++)
+            for (uint64_t key = 0; key < workers[i].turn && turn < 2; key++)
+                EXPECT(samvolip_map_remove(map, key * 4 + i, NULL) == SAMVOLIP_PRESENT);
+        EXPECT((turn ? samvolip_map_renew(map, 0) : samvolip_map_clear(map, NULL, NULL)) == (turn < 2 ? SAMVOLIP_OK : SAMVOLIP_E_OUT_OF_MEMORY));
+        EXPECT(size_of(map) == (turn < 2 ? 0 : put));
+    }
+    samvolip_map_free(map);
+}
+
+/* Built with fewer slots at most than a table has, as -DMOST_EXPONENT says to the sources. */
 static void the_largest_table_fills(void)
 {
 #ifdef MOST_EXPONENT
@@ -1465,7 +1684,7 @@ static void the_largest_table_fills(void)
 
 /* ---- many maps ----------------------------------------------------------------------------- */
 
-enum { MAPS = 40 };
+enum { MAPS = 70 }; /* more than a thread remembers */
 
 static samvolip_map *_Atomic opened;
 static void call_each_map(struct worker *worker)
@@ -1584,10 +1803,17 @@ static const struct {
     TEST(what_is_cleared_and_what_is_left_are_all),
     TEST(forty_walks_show_each_key_once),
     TEST(a_walk_stays_with_what_was_there),
+    TEST(a_map_divides_and_joins_while_threads_write),
+    TEST(sizes_lists_and_walks_are_whole_through_divisions),
+    TEST(an_estimate_is_exact_through_divisions),
+    TEST(walks_stay_through_a_division_and_back),
+    TEST(keys_of_one_part_are_no_trouble),
+    TEST(a_map_with_much_room_keeps_it),
     TEST(children_and_parents_go_on),
     TEST(handlers_are_refused_in_the_middle_of_calls),
     TEST(handlers_call_while_threads_end),
     TEST(memory_of_the_options_is_the_most),
+    TEST(memory_bounds_all_parts_together),
     TEST(the_largest_table_fills),
     TEST(a_map_is_freed_before_its_threads_end),
     TEST(many_maps_are_called_in_turn),

@@ -390,6 +390,13 @@ public:
         return inside::answer(code, size);
     }
 
+    /* Whether there is none: as size(). */
+    result<bool> empty() const
+    {
+        const auto keys = size();
+        return keys.has_value() ? result<bool>(*keys == 0) : result<bool>(keys.error());
+    }
+
     /* About how many: a guess while others write. */
     result<std::uint64_t> size_estimate() const
     {
@@ -458,6 +465,45 @@ public:
         samvolip_map_walk *begun = nullptr;
         const int code = samvolip_map_walk_begin(native_handle(), &begun);
         return inside::answer(code, samvolip::walk(begun));
+    }
+
+    /* Such a loop shows each key and its number to a function, which may call the map, and answers
+       how many it showed. Refused: out_of_memory. */
+    template <class Function> result<std::uint64_t> for_each(Function &&function) const
+    {
+        auto way = walk();
+        if (!way.has_value())
+            return way.error();
+        for (std::uint64_t shown = 0;; shown++) {
+            const auto next = way->next();
+            if (!next.has_value())
+                return next.error();
+            if (!*next)
+                return shown;
+            function((*next)->key, (*next)->number);
+        }
+    }
+
+    /* Erases each key of which a predicate, a function of a key and its number, says so, in the
+       course of for_each: just with the number of which it said so. It is asked again where others'
+       writes of the key came first. Answers how many it erased. If it is refused, some may be. */
+    template <class Predicate> result<std::uint64_t> erase_if(Predicate &&predicate)
+    {
+        std::uint64_t erased = 0;
+        refusal why;
+        const auto shown = for_each([&](std::uint64_t key, std::uint64_t number) {
+            found there = number;
+            bool is_done = why.why() != fault::none;
+            while (!is_done && there && predicate(key, *there)) {
+                const result<bool> made = compare_exchange(key, there, std::nullopt);
+                why = made.error();
+                erased += made.value_or(false);
+                is_done = !made.has_value() || *made;
+            }
+        });
+        if (!shown.has_value() || why.why() != fault::none)
+            return shown.has_value() ? why : shown.error();
+        return erased;
     }
 
     /* ---- */

@@ -251,6 +251,36 @@ void walks(keys how)
     EXPECT(shown.size() == 300 && !other.next().value() && map.size().value() == 0);
 }
 
+// Loops by functions, which call the map: what another one wrote is shown to the predicate again.
+void shows_and_erases(keys how)
+{
+    samvolip::map map = opened(how);
+    EXPECT(map.empty().value() && map.for_each([](std::uint64_t, std::uint64_t) { std::abort(); }).value() == 0);
+    put_keys(map, 0, 300);
+    std::set<std::uint64_t> seen;
+    const auto see = [&](std::uint64_t key, std::uint64_t number) {
+        EXPECT(key == number * 65536 && seen.insert(number).second && map.get(key).value() == number);
+    };
+    EXPECT(map.for_each(see).value() == 300 && seen.size() == 300 && !map.empty().value());
+
+    // of every four, one is written before it is erased, one is written and stays, and one is gone before
+    unsigned asked = 0;
+    const auto goes = [&](std::uint64_t key, std::uint64_t number) {
+        asked++;
+        const std::uint64_t kind = key / 65536 % 4;
+        if (number >= 1000)
+            return kind == 1;
+        if (kind == 3)
+            EXPECT(map.erase(key).value() == number);
+        else if (kind != 0)
+            EXPECT(map.exchange(key, number + 1000).value() == number);
+        return kind != 0;
+    };
+    EXPECT(map.erase_if(goes).value() == 75 && asked == 75 * (1 + 2 + 2 + 1) && map.size().value() == 150);
+    EXPECT(map.get(65536 * 2).value() == 1002u && map.get(0).value() == 0u && !map.contains(65536).value());
+    EXPECT(map.erase_if([](std::uint64_t, std::uint64_t) { return true; }).value() == 150 && map.empty().value());
+}
+
 // Two numbers are mixed to no keys: they are keys all the same, as the greatest ones are.
 void takes_every_key(keys how)
 {
@@ -385,6 +415,7 @@ int main()
         EXPECT(map.size().value() == 0);
         grows_and_shrinks(how);
         walks(how);
+        shows_and_erases(how);
         takes_every_key(how);
     }
     samvolip::seat seat = samvolip::seat::open({{2, 6, 10}, 3, 1, 1, 18, 8}).value();

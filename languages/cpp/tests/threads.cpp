@@ -10,6 +10,7 @@
 #include <condition_variable>
 #include <deque>
 #include <functional>
+#include <map>
 #include <mutex>
 #include <thread>
 
@@ -146,6 +147,35 @@ void clears_beside_writers()
     });
     EXPECT(map.clear(take).has_value() && map.size().value() == 0);
     EXPECT(std::count(seen.begin(), seen.end(), true) == std::ptrdiff_t(writers * each));
+}
+
+// Some threads add, and another erases what is even: each sum is what was erased and what is left.
+void erases_beside_writers()
+{
+    constexpr unsigned writers = 3;
+    samvolip::map map = opened(10, 2);
+    std::atomic<unsigned> at_work{writers};
+    std::uint64_t erased = 0;
+    run_on(writers + 1, [&](unsigned number) {
+        if (number < writers) {
+            for (std::uint64_t i = 0; i < rounds; i++)
+                EXPECT(map.add(i % 100, 1).has_value());
+            at_work--;
+            return;
+        }
+        while (at_work > 0) {
+            std::map<std::uint64_t, std::uint64_t> said;
+            const auto is_even = [&](std::uint64_t key, std::uint64_t sum) {
+                said[key] = sum;
+                return sum % 2 == 0 || said.erase(key) == 0;
+            };
+            EXPECT(map.erase_if(is_even).value() == said.size());
+            for (auto [key, sum] : said)
+                erased += sum;
+        }
+    });
+    EXPECT(map.for_each([&](std::uint64_t, std::uint64_t sum) { erased += sum; }).value() <= 100);
+    EXPECT(erased == writers * rounds);
 }
 
 // ---- threads
@@ -321,6 +351,7 @@ int main(int count, char **words)
         rounds = unsigned(std::strtoul(words[1], nullptr, 10));
     adds_through_renewals();
     clears_beside_writers();
+    erases_beside_writers();
     serves_three_hundred();
     lets_threads_come_and_go();
     outlives_maps();

@@ -3,10 +3,15 @@ import com.google.common.collect.testing.SampleElements;
 import com.google.common.collect.testing.TestMapGenerator;
 import com.google.common.collect.testing.features.CollectionFeature;
 import com.google.common.collect.testing.features.CollectionSize;
+import com.google.common.collect.testing.features.Feature;
+import com.google.common.collect.testing.features.FeatureUtil;
 import com.google.common.collect.testing.features.MapFeature;
+import java.util.EnumSet;
 import java.util.Enumeration;
+import java.util.HashSet;
 import java.util.List;
 import java.util.Map;
+import java.util.Set;
 import java.util.concurrent.ConcurrentMap;
 import junit.framework.TestFailure;
 import junit.framework.TestResult;
@@ -53,10 +58,41 @@ public final class GuavaTest {
         }
     }
 
+    private static final List<Feature<?>> SET =
+        List.of(MapFeature.GENERAL_PURPOSE, CollectionFeature.SUPPORTS_ITERATOR_REMOVE, CollectionSize.ANY);
+
+    /** Guava's other flags, with the reason. Where a flag isn't set, the suite asks for the contrary, if that is one of a map's rules. */
+    private static final List<Feature<?>> LEFT_OUT = List.of(
+        // a ConcurrentMap refuses null
+        MapFeature.ALLOWS_NULL_KEYS, MapFeature.ALLOWS_NULL_VALUES, MapFeature.ALLOWS_NULL_KEY_QUERIES, MapFeature.ALLOWS_NULL_VALUE_QUERIES,
+        MapFeature.ALLOWS_NULL_ENTRY_QUERIES, MapFeature.ALLOWS_ANY_NULL_QUERIES, CollectionFeature.ALLOWS_NULL_VALUES,
+        CollectionFeature.ALLOWS_NULL_QUERIES,
+        // its iterators go on while others write
+        MapFeature.FAILS_FAST_ON_CONCURRENT_MODIFICATION, CollectionFeature.FAILS_FAST_ON_CONCURRENT_MODIFICATION,
+        // keys are mixed with a secret
+        CollectionFeature.KNOWN_ORDER, CollectionFeature.DESCENDING_VIEW,
+        // its entries are outside of Java's heap
+        CollectionFeature.SERIALIZABLE, CollectionFeature.SERIALIZABLE_INCLUDING_VIEWS,
+        // each Long here is in range; what is refused is in SamvolipTest
+        MapFeature.RESTRICTS_KEYS, MapFeature.RESTRICTS_VALUES, CollectionFeature.RESTRICTS_ELEMENTS,
+        // the suite itself sets it for the views, where the map supports removals
+        CollectionFeature.REMOVE_OPERATIONS,
+        // these are no rules of such a map, nor of its views
+        MapFeature.REJECTS_DUPLICATES_AT_CREATION, CollectionFeature.REJECTS_DUPLICATES_AT_CREATION, CollectionFeature.NON_STANDARD_TOSTRING,
+        CollectionFeature.SUPPORTS_ADD, CollectionFeature.GENERAL_PURPOSE, CollectionFeature.SUBSET_VIEW, CollectionFeature.NONE);
+
+    /** Each flag of maps and of their views is set, follows from one that is, or is left out. */
+    private static void looksAtEachFlag() {
+        Set<Feature<?>> all = new HashSet<>(EnumSet.allOf(MapFeature.class)), named = new HashSet<>(SET);
+        all.addAll(EnumSet.allOf(CollectionFeature.class));
+        named.addAll(LEFT_OUT);
+        all.removeAll(FeatureUtil.addImpliedFeatures(named));
+        if (!all.isEmpty()) throw new AssertionError("these flags of Guava's are neither set nor left out: " + all);
+    }
+
     public static void main(String[] words) {
-        TestSuite suite = ConcurrentMapTestSuiteBuilder.using(new Maps()).named("asConcurrentMap")
-            .withFeatures(MapFeature.GENERAL_PURPOSE, CollectionFeature.SUPPORTS_ITERATOR_REMOVE, CollectionSize.ANY)
-            .createTestSuite();
+        looksAtEachFlag();
+        TestSuite suite = ConcurrentMapTestSuiteBuilder.using(new Maps()).named("asConcurrentMap").withFeatures(SET).createTestSuite();
         TestResult result = new TestResult();
         suite.run(result);
         for (Enumeration<TestFailure> wrong : List.of(result.failures(), result.errors())) {

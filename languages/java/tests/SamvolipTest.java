@@ -225,7 +225,7 @@ public final class SamvolipTest {
             Figures grown = map.figures();
             expect(grown.renewals() > 3 && grown.slots() >= 131072 && grown.keys() == 100000 && grown.threads() == 1);
             for (long key = 0; key < 100000; key++) expect(map.remove(key << 16), of(key));
-            for (long key = 0; key < 1000000; key++) {
+            for (long key = 0; key < 300000; key++) {
                 map.put(-10 - key, key);
                 map.remove(-10 - key);
             }
@@ -237,6 +237,7 @@ public final class SamvolipTest {
         }
     }
 
+    /** Exact sums by eight threads, one of which makes the map anew by hand, too. */
     private static void eightThreads() throws InterruptedException {
         try (SamvolipMap map = new SamvolipMap(new Options().withRoom(10).withGrowth(2))) {
             threads(8, me -> {
@@ -244,6 +245,7 @@ public final class SamvolipTest {
                     long key = (i * 7 + me * 625) % 5000 * 65536;
                     map.add(key, 1);
                     expect(map.containsKey(key));
+                    if (me == 0 && i % 1000 == 0) map.renew(i % 7919);
                     if (i % 10000 == 0) map.forEach((shown, number) -> expect(shown % 65536 == 0 && shown >= 0 && shown < 5000L * 65536));
                 }
             });
@@ -254,7 +256,7 @@ public final class SamvolipTest {
                 shown[1] += number;
             });
             expect(Arrays.toString(shown), "[5000, 320000]");
-            expect(map.size(), 5000L);
+            expect(map.size() == 5000 && map.figures().renewals() >= 40);
         }
     }
 
@@ -491,7 +493,7 @@ public final class SamvolipTest {
             AtomicLong made = new AtomicLong();
             threads(4, me -> {
                 if (me == 0) {
-                    while (made.get() < 100) Thread.onSpinWait();
+                    while (made.get() < 100) Thread.yield();
                     map.close();
                     map.close();
                     return;

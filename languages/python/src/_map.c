@@ -1,12 +1,15 @@
-/* _map.c - the map of samvolip_map.h as a type of Python, over the stable ABI of CPython 3.10. samvolip/__init__.py makes a
-   MutableMapping of it.
+/* _map.c - the map of samvolip_map.h as a type of Python, over the stable ABI of CPython 3.10; a CPython without a global lock has none,
+   so there it is over that version's own. samvolip/__init__.py makes a MutableMapping of it.
 
    A call of one key keeps the interpreter's lock, since to let go of it and take it again costs more than the call, unless it has to
    wait or renews the map. What may take long lets go of it from the beginning: batches, and calls of the whole map. No call of the map
    waits for a thread that needs the interpreter's lock.
 
    No key and no number goes to the map that it would refuse for its range: key_of and value_of raise first. */
+#include <pyconfig.h>
+#ifndef Py_GIL_DISABLED
 #define Py_LIMITED_API 0x030a0000
+#endif
 #define PY_SSIZE_T_CLEAN
 #include <Python.h>
 #include "samvolip_map.h"
@@ -42,6 +45,15 @@ static void take_back(void *state)
     PyEval_RestoreThread(state);
     has_let_go = false;
 }
+
+/* Where there is no such lock: between these two lines this thread alone is at work with an object. */
+#ifdef Py_GIL_DISABLED
+#define ALONE_WITH(object) Py_BEGIN_CRITICAL_SECTION(object)
+#define ALONE_NO_MORE Py_END_CRITICAL_SECTION()
+#else
+#define ALONE_WITH(object) {
+#define ALONE_NO_MORE }
+#endif
 
 /* ---- what is given ------------------------------------------------------------------------- */
 
@@ -534,14 +546,18 @@ static int map_init(PyObject *itself, PyObject *args, PyObject *named)
     take_back(state);
     if (code < 0)
         return refuse(code), -1;
-    if (self->map) {
-        samvolip_map_free(map);
-        PyErr_SetString(PyExc_ValueError, "the map is open");
-        return -1;
-    }
     samvolip_map_lets_go(map, let_go, take_back);
-    self->map = map;
-    return 0;
+    bool is_open;
+    ALONE_WITH(itself);
+    is_open = self->map;
+    if (!is_open)
+        self->map = map;
+    ALONE_NO_MORE;
+    if (!is_open)
+        return 0;
+    samvolip_map_free(map);
+    PyErr_SetString(PyExc_ValueError, "the map is open");
+    return -1;
 }
 
 static void map_dealloc(PyObject *self)
@@ -655,13 +671,17 @@ static PyObject *walk_next(PyObject *itself)
 {
     Walk *self = (Walk *)itself;
     uint64_t key, number;
-    int code = self->walk ? samvolip_map_walk_next(self->walk, &key, &number) : SAMVOLIP_ABSENT;
+    int code = SAMVOLIP_ABSENT;
+    ALONE_WITH(itself);
+    if (self->walk)
+        code = samvolip_map_walk_next(self->walk, &key, &number);
+    if (code == SAMVOLIP_ABSENT)
+        walk_clear(itself);
+    ALONE_NO_MORE;
     if (code < 0)
         return refuse(code);
-    if (code == SAMVOLIP_ABSENT) {
-        walk_clear(itself);
+    if (code == SAMVOLIP_ABSENT)
         return NULL;
-    }
     if (self->shows != ITEMS)
         return PyLong_FromUnsignedLongLong(self->shows == KEYS ? key : number);
     PyObject *pair = PyTuple_New(2);
@@ -724,7 +744,13 @@ static PyMethodDef functions[] = {
     {NULL, NULL, 0, NULL},
 };
 
-static PyModuleDef_Slot parts[] = {{Py_mod_exec, fill}, {0, NULL}};
+static PyModuleDef_Slot parts[] = {
+    {Py_mod_exec, fill},
+#ifdef Py_GIL_DISABLED
+    {Py_mod_gil, Py_MOD_GIL_NOT_USED},
+#endif
+    {0, NULL},
+};
 
 static PyModuleDef definition = {
     PyModuleDef_HEAD_INIT, "_map", "The map of samvolip_map.h; samvolip.Map is what to use.", sizeof(PyObject *), functions, parts, traverse, clear, NULL,

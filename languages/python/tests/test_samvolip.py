@@ -8,6 +8,7 @@ from __future__ import annotations
 import collections
 import copy
 import gc
+import importlib
 import multiprocessing
 import os
 import pickle
@@ -17,6 +18,7 @@ import resource
 import signal
 import subprocess
 import sys
+import sysconfig
 import tempfile
 import threading
 import time
@@ -31,6 +33,7 @@ from samvolip import KEY_MAX, VALUE_MAX, Map
 
 PAGE = os.path.join(os.path.dirname(os.path.abspath(__file__)), "../../../docs/python.md")
 KINDS = ("secret", "mixed", "as they are")
+HAS_LOCK = not sysconfig.get_config_var("Py_GIL_DISABLED")
 
 
 def run_all(count: int, work: Callable[[int], object]) -> None:
@@ -390,6 +393,14 @@ class Loops(unittest.TestCase):
         m.clear()
         self.assertEqual((len(m), {len(list(walk)) for walk in walks}), (0, {199}))
 
+    def test_of_many_threads(self):
+        """Threads that go on with one walk each have other keys."""
+        m = Map(zip(range(20_000), range(20_000)))
+        walk = iter(m)
+        shown: list[list[int]] = [[] for _ in range(4)]
+        run_all(4, lambda number: shown[number].extend(walk))
+        self.assertEqual(sorted(sum(shown, [])), list(range(20_000)))
+
     def test_of_another_thread(self):
         m = Map(zip(range(1000), range(1000)))
         walk = iter(m)
@@ -493,7 +504,7 @@ class Batches(unittest.TestCase):
 
     def test_numpy(self):
         try:
-            import numpy  # type: ignore[import]
+            numpy: Any = importlib.import_module("numpy")
         except ImportError:
             self.skipTest("no numpy here")
         m = Map()
@@ -615,6 +626,7 @@ class Threads(unittest.TestCase):
             renewing.join()
         self.assertEqual((len(m), {m[key] for key in range(500)}), (506, {2 * sum(rounds)}))
 
+    @unittest.skipUnless(HAS_LOCK, "there is no interpreter's lock")
     def test_lets_go(self):
         """A put that makes the map anew, or waits for that, lets go of the interpreter's lock, and no other call of a key does."""
         m, turns, goes_on = Map(threads=2), [0], [True]

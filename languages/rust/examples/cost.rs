@@ -1,6 +1,7 @@
 //! What a call takes, in nanoseconds, beside a `HashMap` of std behind a `Mutex` or an `RwLock`: by one thread, and by several
 //! that call at once. Each figure is the best of some rounds, so that it holds on a busy machine, too. Build it with --release.
-//! `cost THREADS` says how many several are; else it is 4. `bench/Cargo.toml` builds it with dashmap beside.
+//! `cost THREADS ROUNDS` says how many several are, and how many rounds there are; else 4 and 300. `bench/Cargo.toml` builds it with
+//! dashmap beside.
 #![allow(unexpected_cfgs)]
 
 use samvolip::{Keys, Map, Options};
@@ -14,7 +15,8 @@ use std::time::Instant;
 const KEYS: u64 = 10_000;
 
 fn main() {
-    let several = args().nth(1).map_or(4, |word| word.parse().expect("a number of threads"));
+    let word = |place, usual| args().nth(place).map_or(usual, |word| word.parse().expect("a number"));
+    let (several, rounds) = (word(1, 4), word(2, 300));
     let entries = || (0..KEYS).map(|key| (key, key));
     let map = |keys| {
         let map = Map::with_options(Options::new().room(2 * KEYS as usize).keys(keys)).unwrap();
@@ -26,7 +28,7 @@ fn main() {
     let rwlock: RwLock<HashMap<u64, u64>> = RwLock::new(entries().collect());
     println!("{:34} {:>8} {:>10}", "", "1 thread", format!("{several} threads"));
     let tell = |name: &str, call: &(dyn Fn(u64) -> Option<u64> + Sync)| {
-        println!("{name:34} {:8.1} {:10.1}", cost(1, 300, 2000, call), cost(several, 100, 20_000, call));
+        println!("{name:34} {:8.1} {:10.1}", cost(1, rounds, 2000, call), cost(several, rounds.div_ceil(3), 20_000, call));
     };
     tell("get, Map", &|key| secret.get(key));
     tell("get, Map, keys as they are", &|key| plain.get(key));
@@ -56,7 +58,7 @@ fn main() {
 
 /// What one of so many threads takes for a call, while the others call: the best of so many rounds of so many calls. A round goes
 /// from the first thread's beginning to the last one's end. The keys come in no order.
-fn cost(threads: u64, rounds: usize, calls: u64, call: &(dyn Fn(u64) -> Option<u64> + Sync)) -> f64 {
+fn cost(threads: u64, rounds: u64, calls: u64, call: &(dyn Fn(u64) -> Option<u64> + Sync)) -> f64 {
     let start = &Barrier::new(threads as usize);
     let round = move |number: u64| {
         start.wait();
@@ -71,9 +73,9 @@ fn cost(threads: u64, rounds: usize, calls: u64, call: &(dyn Fn(u64) -> Option<u
         let workers: Vec<_> = (0..threads).map(work).collect();
         workers.into_iter().map(|worker| worker.join().unwrap()).collect()
     });
-    let length = |i: usize| {
-        let begun = times.iter().map(|times| times[i].0).min().unwrap();
-        let ended = times.iter().map(|times| times[i].1).max().unwrap();
+    let length = |i: u64| {
+        let begun = times.iter().map(|times| times[i as usize].0).min().unwrap();
+        let ended = times.iter().map(|times| times[i as usize].1).max().unwrap();
         (ended - begun).as_nanos() as f64 / calls as f64
     };
     (0..rounds).map(length).fold(f64::INFINITY, f64::min)

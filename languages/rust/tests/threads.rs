@@ -278,7 +278,9 @@ fn three_hundred_threads() {
                 map.fetch_add(i, 1);
                 assert_eq!(map.get(1000 + 100 * number + i), Some(i));
             }
-            assert!(map.iter().filter(|&(key, _)| key / 100 == 10 + number).count() == 100);
+            if number % 10 == 0 {
+                assert_eq!(map.keys().filter(|&key| key / 100 == 10 + number).count(), 100);
+            }
         });
         assert!((0..100).all(|key| map.get(key) == Some(300)));
         assert_eq!(map.len(), 30_100);
@@ -568,7 +570,8 @@ mod signals {
         beside(call, || {
             // the thread sanitizer keeps signals back until calls of C have ended
             let keeps_back = std::env::var_os("TSAN_OPTIONS").is_some();
-            let (caller, end) = (told.recv().unwrap(), Instant::now() + Duration::from_secs(if keeps_back { 2 } else { 60 }));
+            let most = Duration::from_millis(if keeps_back { 200 } else { 60_000 });
+            let (caller, end) = (told.recv().unwrap(), Instant::now() + most);
             while NESTED.load(Ordering::Relaxed) == 0 || MADE.load(Ordering::Relaxed) == 0 {
                 // SAFETY: the thread goes on until this work is done.
                 assert_eq!(unsafe { pthread_kill(caller, SIGUSR1) }, 0);

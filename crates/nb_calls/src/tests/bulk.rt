@@ -2,6 +2,7 @@
 use super::rows::Answer::{Nothing, Was};
 use super::rows::Call::{Get, Put};
 use super::rows::*;
+use nb_core::Num;
 use nb_map::{FullAfter, Handle};
 use std::alloc::Global;
 use std::process::Abort;
@@ -105,4 +106,27 @@ fn extend_says_how_many_were_put(rt: HostRuntime) {
     assert!(&rt; handle.extend(&rt, &entries) == Err(FullAfter { put: 3 }));
     let left = [(0, 0), (1, 10), (2, 20), (3, 30)];
     leaves(&rt, rt.alloc(), handle, &left);
+}
+
+/// Many keys have what each of them has alone: absent keys and repeated ones, in all tables.
+#[test]
+fn get_many_finds_what_get_finds(rt: HostRuntime) {
+    let mut handle = filled(&rt, rt.alloc());
+    let keys = [
+        key(&rt, 9),
+        key(&rt, 3),
+        key(&rt, 1),
+        key(&rt, 5),
+        key(&rt, 9),
+        key(&rt, 13),
+        key(&rt, 2),
+    ];
+    let mut found = [None; 7];
+    handle.get_many(&keys, &mut found);
+    for (key, number) in keys.iter().zip(found.iter()) {
+        assert!(&rt; *number == handle.get(*key));
+    }
+    assert!(&rt; found[0].map(Num::get) == Some(90));
+    handle.get_many(&[], &mut []);
+    leaves(&rt, rt.alloc(), handle, &SPREAD);
 }

@@ -7,7 +7,7 @@ use super::renewing::{renewed, settles};
 use super::rows::Answer::{Made, Nothing, Was};
 use super::rows::Call::*;
 use super::rows::*;
-use nb_core::{Key, Shape};
+use nb_core::{Key, Shape, ShapeFault};
 use nb_map::{Handle, RenewFault, SettleFault};
 use std::alloc::Global;
 use std::process::Abort;
@@ -15,11 +15,16 @@ use std::sync::Wait;
 use std::thread;
 use std::thread::Threads;
 
+/// A shape for four threads.
+fn for_four() -> Result<Shape, ShapeFault> {
+    Shape::for_keys(1000, 4)
+}
+
 /// Four threads add to one key at the same time, and the map is closed with the seats of all.
 #[test]
 fn tallies(rt: HostRuntime) {
     let (key, once) = entry(&rt, 7, 1);
-    let handle = opened(&rt, rt.alloc(), Shape::for_keys(1000, 4));
+    let handle = opened(&rt, rt.alloc(), for_four());
     let mut handles = parted(&rt, rt.alloc(), handle);
     thread::for_each_mut(
         &rt,

@@ -1,7 +1,6 @@
 //! Shapes for a number of keys.
 ghost use Rattle.std.specs.Prelude.{◌≡◌, ◌≤◌, IfOk, Ok};
 ghost use Rattle.nb_core.specs.declared.shapes.TheConstants.{
-  FEW_KEYS,
   MAX_EXPONENT,
   MAX_SEATS,
   MAX_STRIPES,
@@ -12,33 +11,27 @@ ghost use Rattle.nb_core.specs.Plans.{
   checked_for_keys,
   exponent_for,
   plan,
-  plan_for_few_keys,
-  plan_for_many_keys,
+  plan_for_keys,
   steps_down,
   tables_for,
 };
 
-use super::{
-    FEW_KEYS, LARGE_CHUNK, MAX_GENERATIONS, MAX_SEATS, MOST_KEYS, SHARED_STRIPES, Shape, ShapeFault,
-};
+use super::{MAX_GENERATIONS, MAX_SEATS, MOST_KEYS, SHARED_STRIPES, Shape, ShapeFault};
 
-/// The fewest slots of the last table, so that the first of two has 4 at least.
+/// The fewest slots of the last table.
 const SMALLEST_LAST: usize = 32;
 
-/// The reprobe limit of a shape for few keys.
-const SHORT_PATH: u32 = 18;
-
-/// The least exponent of the first table of a shape for many keys.
+/// The least exponent of the first table.
 const FIRST_EXPONENT: u32 = 4;
 
-/// By how much each exponent of a shape for many keys is above the one before it.
+/// By how much each exponent is above the one before it.
 const STEP: u32 = 8;
 
-/// The reprobe limit of a shape for many keys.
-const MANY_REPROBES: u32 = 18;
+/// The reprobe limit of a shape for so many keys.
+const SHORT_PATH: u32 = 18;
 
-/// The chunk of a shape for many keys.
-const MANY_CHUNK: u32 = 256;
+/// The chunk of a shape for so many keys.
+const KEYS_CHUNK: u32 = 256;
 
 impl Shape {
     /// The shape for so many different keys, up to [`MOST_KEYS`], and 1 to [`MAX_SEATS`] seats;
@@ -46,11 +39,10 @@ impl Shape {
     /// half as many slots again as there are keys, and more by the next power of two. A put is
     /// refused as full only where other keys have all slots of it.
     ///
-    /// For up to [`FEW_KEYS`] keys there is one table before it, with an eighth of its slots, so
-    /// that a map that fills grows once. There is a stripe for each seat. For more keys, each table
-    /// has a 256th of the slots of the next one, down to 16 at least, so that a map with few keys
-    /// stays small in the cache. There is a stripe for each seat, but no more than 16. In both,
-    /// paths are kept short and chunks large, by the numbers that measured best.
+    /// Each table has a 256th of the slots of the next one, down to 16 at least, so that a growth
+    /// copies little, and a map with few keys stays small in the cache. There is a stripe for each
+    /// seat, but no more than 16. Paths are kept short and chunks large, by the numbers that
+    /// measured best.
     pub fn for_keys(most: usize, seats: usize) -> Result<Shape, ShapeFault>
         ensures shape { result ≡ checked_for_keys most seats }
         ensures room { IfOk result (λ p. HasRoomFor p most) }
@@ -61,35 +53,19 @@ impl Shape {
         if seats < 1 || seats > MAX_SEATS {
             return Err(ShapeFault::Seats);
         }
-        if most > FEW_KEYS {
-            Self::for_many(most, seats)
-        } else {
-            Self::for_few(most, seats)
-        }
+        Self::with_room(most, seats)
     }
 
-    /// The shape for few keys, of two tables.
-    fn for_few(most: usize, seats: usize) -> Result<Shape, ShapeFault>
+    /// The shape for so many keys and seats, which are in range.
+    fn with_room(most: usize, seats: usize) -> Result<Shape, ShapeFault>
         requires keys { most ≤ MOST_KEYS }
         requires seats { (1 ≤ seats) × (seats ≤ MAX_SEATS) }
-        ensures { result ≡ Ok (plan_for_few_keys most seats) }
-    {
-        let last = last_exponent(most);
-        Self::laid_out(&[last - 3, last], seats as u16, seats as u16)
-            .with_reprobe_limit(SHORT_PATH)?
-            .with_chunk(LARGE_CHUNK)
-    }
-
-    /// The shape for many keys, of tables that grow by steps.
-    fn for_many(most: usize, seats: usize) -> Result<Shape, ShapeFault>
-        requires keys { most ≤ MOST_KEYS }
-        requires seats { (1 ≤ seats) × (seats ≤ MAX_SEATS) }
-        ensures { result ≡ Ok (plan_for_many_keys most seats) }
+        ensures { result ≡ Ok (plan_for_keys most seats) }
     {
         let stripes = seats.min(SHARED_STRIPES);
         Self::stepped(last_exponent(most), seats as u16, stripes as u16)
-            .with_reprobe_limit(MANY_REPROBES)?
-            .with_chunk(MANY_CHUNK)
+            .with_reprobe_limit(SHORT_PATH)?
+            .with_chunk(KEYS_CHUNK)
     }
 
     /// The shape of tables of which the last has `2^last` slots, and each one before it `2^STEP`

@@ -1,6 +1,6 @@
 //! Shapes and their places.
 use super::wide::{made, told_of};
-use nb_core::{FEW_KEYS, HeaderWord, Shape, ShapeFault};
+use nb_core::{HeaderWord, Shape, ShapeFault};
 use std::process::Abort;
 use std::test::Fail;
 
@@ -175,23 +175,4 @@ fn chunks(rt: HostRuntime) -> Result<(), Fail> {
         assert!(rt; plain.with_chunk(slots).is_ok(), "{slots}");
     }
     Ok(())
-}
-
-#[test]
-fn shapes_for_few_keys(rt: HostRuntime) {
-    for (most, seats, first, last) in [
-        (0, 1, 2, 5),
-        (1, 4, 2, 5),
-        (21, 4, 2, 5),
-        (22, 4, 3, 6),
-        (43, 4, 3, 6),
-        (1000, 8, 8, 11),
-        (65536, 9, 14, 17),
-        (174763, 17, 15, 18),
-        (174764, 100, 16, 19),
-        (FEW_KEYS, 256, 16, 19),
-    ] {
-        let due = made(&[first, last], seats, seats, 18, 64);
-        assert!(rt; Shape::for_keys(most, seats) == due, "for {most} keys");
-    }
 }

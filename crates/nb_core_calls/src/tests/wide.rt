@@ -1,7 +1,5 @@
 //! Shapes of large tables and of many seats.
-use nb_core::{
-    FEW_KEYS, HeaderWord, MAX_SEATS, MAX_SLOTS, MAX_STRIPES, MOST_KEYS, Shape, ShapeFault,
-};
+use nb_core::{HeaderWord, MAX_SEATS, MAX_SLOTS, MAX_STRIPES, MOST_KEYS, Shape, ShapeFault};
 use std::test::Fail;
 
 /// The shape of these numbers, each put in by the call that is named after it.
@@ -62,7 +60,7 @@ fn as_many_slots_as_there_may_be(rt: HostRuntime) -> Result<(), Fail> {
 #[test]
 fn limits_of_shapes(rt: HostRuntime) {
     assert!(rt; (MAX_SLOTS, MAX_SEATS, MAX_STRIPES) == (1_073_741_824, 256, 256));
-    assert!(rt; (FEW_KEYS, MOST_KEYS) == (349_525, 178_956_970));
+    assert!(rt; MOST_KEYS == 178_956_970);
 }
 
 /// The exponents of four tables, which a settled plan may have too.
@@ -110,10 +108,19 @@ fn seats_and_stripes_refusals(rt: HostRuntime) -> Result<(), Fail> {
 }
 
 #[test]
-fn shapes_for_many_keys(rt: HostRuntime) {
-    let rows: [(usize, usize, &[u32]); 8] = [
-        (FEW_KEYS + 1, 1, &[4, 12, 20]),
-        (699_051, 8, &[4, 12, 20]),
+fn shapes_for_keys(rt: HostRuntime) {
+    let rows: [(usize, usize, &[u32]); 17] = [
+        (0, 1, &[5]),
+        (21, 4, &[5]),
+        (22, 4, &[6]),
+        (43, 4, &[6]),
+        (1000, 8, &[11]),
+        (1365, 8, &[11]),
+        (1366, 9, &[4, 12]),
+        (65536, 9, &[9, 17]),
+        (174_763, 17, &[10, 18]),
+        (174_764, 100, &[11, 19]),
+        (349_526, 256, &[4, 12, 20]),
         (699_052, 16, &[5, 13, 21]),
         (1_000_000, 17, &[5, 13, 21]),
         (11_184_811, 64, &[8, 16, 24]),

@@ -2,12 +2,15 @@
 ghost use Rattle.std.specs.Prelude.{Ok};
 ghost use Rattle.nb_ffi.specs.Codes.{checked_call, checked_key, write_of};
 ghost use Rattle.nb_ffi.specs.Handles.{IsOpenHandle, StaysOpen};
+ghost use Rattle.nb_ffi.specs.Many.{IsGetMany};
 ghost use Rattle.nb_ffi.specs.Promises.{HasEstimated, HasSeenTop};
 ghost use Rattle.nb_ffi.specs.Telling.{AreOfOneMap, HasMetHandle, IsGet, IsSample, IsWrite};
 
 use crate::codes::{
-    ABSENT, OK, PRESENT, WriteAsked, WriteReply, asked, fault_code, key_of, reply_in_c,
+    ABSENT, E_KEY_RANGE, E_ROOM, OK, PRESENT, WriteAsked, WriteReply, asked, fault_code, key_of,
+    reply_in_c,
 };
+use crate::many::{are_keys, get_many};
 use crate::occupancy::{MapOccupancy, occupancy_in_c};
 use crate::seat_handle::SeatHandle;
 use nb_core::Num;
@@ -28,6 +31,28 @@ pub extern "C" fn samvolip_get(seat: &mut SeatHandle, key: u64, number: &mut u64
     // 0 where there is none: so a hit and a miss take the same way
     *number = found.map_or(0, Num::get);
     code
+}
+
+/// `Map::get_many`, of all these keys or of none: a key's number is `other` where it has none.
+#[unsafe(no_mangle)]
+pub extern "C" fn samvolip_get_many(
+    seat: &mut SeatHandle,
+    keys: &[u64],
+    numbers: &mut [u64],
+    other: u64,
+) -> i32
+    requires open { IsOpenHandle seat.old.handle }
+    ensures { IsGetMany keys.now other result numbers.old numbers.new
+        seat.old.handle seat.new.handle }
+{
+    if numbers.len() < keys.len() {
+        return E_ROOM;
+    }
+    if !are_keys(keys) {
+        return E_KEY_RANGE;
+    }
+    get_many(seat.lend(), keys, numbers, other);
+    OK
 }
 
 /// What a write answers, and its code.

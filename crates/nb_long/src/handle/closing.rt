@@ -30,7 +30,7 @@ impl<V: Drop> Handle<V> {
 }
 
 /// What is shared, once no other reference to it is left. Where that is so already, it doesn't wait.
-fn sole<T: Drop, R: Wait>(rt: &R, shared: Arc<T, Global>) -> T
+pub(super) fn sole<T: Drop, R: Wait>(rt: &R, shared: Arc<T, Global>) -> T
     ensures { result ≡ arc_value shared }
 {
     let mut shared = shared;

@@ -1,5 +1,6 @@
 //! The calls of a handle over many keys at once.
-ghost use Rattle.nb_map.specs.Bulk.{HasExtended, HasSweptAll, Keeps, KeepsNone};
+ghost use Rattle.std.specs.Prelude.{length, ◌≡◌};
+ghost use Rattle.nb_map.specs.Bulk.{HasExtended, HasGotMany, HasSweptAll, Keeps, KeepsNone};
 ghost use Rattle.nb_map.specs.Handles.{KeepsRest};
 
 use crate::faults::FullAfter;
@@ -41,5 +42,14 @@ impl Handle {
         ensures rest { KeepsRest self.old self.new }
     {
         self.shared.map.extend(rt, &mut self.seat, entries)
+    }
+
+    /// What the map has at each of these keys, in their order: `Map::get_many`.
+    pub fn get_many(&mut self, keys: &[Key], found: &mut [Option<Num>])
+        requires room { length found.old ≡ length keys.now }
+        ensures got { HasGotMany self.old.map keys.now self.old.seat self.new.seat found.new }
+        ensures rest { KeepsRest self.old self.new }
+    {
+        self.shared.map.get_many(&mut self.seat, keys, found);
     }
 }

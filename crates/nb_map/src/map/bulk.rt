@@ -1,16 +1,21 @@
 //! Calls over many keys at once: walks that show each entry to a function, those that take out what
-//! the function refuses, and puts of many entries.
-ghost use Rattle.std.specs.Prelude.{Bool, false, true, ◌≡◌, ◌⊎◌};
-ghost use Rattle.nb_map.specs.Bulk.{HasExtended, HasSweptAll, Keeps, KeepsNone};
-ghost use Rattle.nb_map.specs.Maps.{IsMine};
+//! the function refuses, puts of many entries, and reads of many keys.
+ghost use Rattle.std.specs.Prelude.{Bool, [], false, length, take, true, ℕ, ◌-◌, ◌≡◌, ◌≤◌, ◌⊎◌};
+ghost use Rattle.nb_table.specs.Chains.{Grown};
+ghost use Rattle.nb_map.specs.Bulk.{HasExtended, HasGotAll, HasGotMany, HasSweptAll, Keeps, KeepsNone};
+ghost use Rattle.nb_map.specs.Maps.{IsMine, SeatOf};
 ghost use Rattle.nb_map.specs.NamedCalls.{remove_if_of};
 ghost use Rattle.nb_map.specs.Progress.{Unlimited};
 ghost use Rattle.nb_map.specs.Promises.{HasWritten, Matched};
 
 use crate::faults::FullAfter;
 use crate::map::{Map, Seat};
+use crate::steps::get::look_ahead;
 use nb_core::{Key, Num};
 use std::sync::Wait;
+
+/// How many keys `get_many` looks ahead at, at a time.
+const AHEAD: usize = 32;
 
 impl Map {
     /// Shows each entry to a function, by a walk: no key twice, and each key that the map has from
@@ -99,6 +104,62 @@ impl Map {
             rest = tail;
         }
         Ok(())
+    }
+
+    /// What the map has at each of these keys, in their order: `found[i]` is of `keys[i]`. Each is
+    /// a `get` of its own, with its place in the log.
+    ///
+    /// Before it gets some keys it makes a load at the home slot of each, and ignores what these
+    /// find. No load waits for another's answer, so the memory answers many at a time. That pays
+    /// where the map is larger than the processor's caches.
+    pub fn get_many(&self, seat: &mut Seat, keys: &[Key], found: &mut [Option<Num>])
+        requires own { IsMine self.now seat.old }
+        requires room { length found.old ≡ length keys.now }
+        ensures { HasGotMany self.now keys.now seat.old seat.new found.new }
+    {
+        let mut done = 0;
+        while done < keys.len() {
+            let end = done + AHEAD.min(keys.len() - done);
+            self.look_at(seat, &keys[done..end]);
+            self.get_some(seat, keys, found, done, end);
+            done = end;
+        }
+    }
+
+    /// Looks ahead at keys.
+    #[inline(always)]
+    fn look_at(&self, seat: &mut Seat, keys: &[Key])
+        requires own { IsMine self.now seat.old }
+        ensures looked { Grown self.now.chain.shape seat.old.chain seat.new.chain []
+            (length keys.now) }
+        ensures count { seat.new.count ≡ seat.old.count }
+    {
+        look_ahead(&self.chain, &mut seat.chain, keys);
+    }
+
+    /// What the map has at the keys of some places.
+    #[inline(always)]
+    fn get_some(
+        &self,
+        seat: &mut Seat,
+        keys: &[Key],
+        found: &mut [Option<Num>],
+        start: usize,
+        end: usize,
+    )
+        requires own { IsMine self.now seat.old }
+        requires room { length found.old ≡ length keys.now }
+        requires order { start ≤ end }
+        requires within { end ≤ length keys.now }
+        ensures got { (before : SeatOf) (looks : ℕ)
+            → HasGotAll self.now before (take start keys.now) (take start found.old) looks seat.old
+            → HasGotAll self.now before (take end keys.now) (take end found.new) looks seat.new }
+        ensures room { length found.new ≡ length keys.now }
+        ensures own { IsMine self.now seat.new }
+    {
+        for i in start..end {
+            found[i] = self.get(seat, keys[i]);
+        }
     }
 }
 

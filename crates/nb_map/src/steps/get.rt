@@ -1,10 +1,10 @@
 //! Reading a key.
-ghost use Rattle.std.specs.Prelude.{IsTrue, None, Some, [], false, if◌then◌else◌, ℕ, ◌+◌, ◌≡◌, ◌≤◌};
+ghost use Rattle.std.specs.Prelude.{IsTrue, None, Some, [], false, if◌then◌else◌, length, ℕ, ◌+◌, ◌≡◌, ◌≤◌};
 ghost use Rattle.nb_core.specs.Paths.{IsPlaced};
 ghost use Rattle.nb_core.specs.Tables.{path_slot};
 ghost use Rattle.nb_core.specs.declared.calls.Call.TheVariants as call;
 ghost use Rattle.nb_core.specs.declared.states.KeyState.TheVariants as key_is;
-ghost use Rattle.nb_table.specs.Chains.{IsOwn, seen_by};
+ghost use Rattle.nb_table.specs.Chains.{Grown, IsOwn, seen_by};
 ghost use Rattle.nb_table.specs.Conditions.{IsReached};
 ghost use Rattle.nb_map.specs.Logs.{as_replied};
 ghost use Rattle.nb_map.specs.Calling.{HasMade};
@@ -183,5 +183,20 @@ pub(crate) fn get_at(chain: &Chain, seat: &mut ChainSeat, key: Key, slot: Slot) 
         Visit::Told(reply) => reply.before,
         Visit::Refused(_) => unreachable!(),
         Visit::Above(_) => get_from(chain, seat, key, slot.g + 1, 0),
+    }
+}
+
+/// Loads the key words of these keys' home slots in the table that the seat remembers, and ignores
+/// what they hold. Afterwards these slots are near, so that the keys' reads needn't wait for the
+/// memory. These loads are no reads of a key: they leave no event.
+#[inline]
+pub(crate) fn look_ahead(chain: &Chain, seat: &mut ChainSeat, keys: &[Key])
+    requires own { IsOwn chain.now seat.old }
+    ensures { Grown chain.now.shape seat.old seat.new [] (length keys.now) }
+{
+    let known = seat.known_top();
+    for key in keys {
+        let home = chain.shape().path(known, *key).slot(0);
+        chain.load_key_word_at(seat, home, None);
     }
 }

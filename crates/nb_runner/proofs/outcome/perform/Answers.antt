@@ -3,33 +3,29 @@ use Rattle.std.proofs.lemmas.List.Elements.{All-same}
 use Rattle.nb_map.specs.Ending.{EndedWith, HasTablesLeft}
 use Rattle.nb_map.specs.Maps.{IsMine}
 use Rattle.nb_map.specs.Maps as maps
-use Rattle.nb_runner.specs.Outcomes.{IsOutcome}
+use Rattle.nb_runner.specs.Outcomes.{IsOutcome, lists_in}
 use Rattle.nb_runner.specs.Working.{phases_in, worker_seats}
-use Rattle.nb_runner.specs.declared.outcome.Outcome.{Outcome}
-use Rattle.nb_runner.proofs.OutcomeLemmas.{is-outcome, run-all, run-mine, workers-mine}
+use Rattle.nb_runner.proofs.OutcomeLemmas.{IfOk-three, is-outcome, run-all, run-mine}
 use Rattle.nb_runner.proofs.outcome.perform.Goals as goal
 
-pub run_phases-requires-clause-own : goal.run_phases-requires-clause-own
-run_phases-requires-clause-own g c κs within =
-    workers-mine c.in_ok-map.map c.in_ok-map.seats.items c.in_ok-workers.workers.items
-    c.in_ok-workers.ensures.seats c.in_ok-map.ensures.own
-
 pub finish-requires : goal.finish-requires
-finish-requires g c = record {
-  own =
-      All-same (IsMine c.in_ok-map.map) c.in_ok-seats.seats.items
-      (worker_seats c.in_ok-ran.ran.items) c.in_ok-seats.ensures.seats
-      (run-mine c.in_ok-map.map (phases_in c.args.phases.now)
-      c.in_ok-workers.workers.items c.in_ok-ran.ran.items c.in_ok-ran.ensures.ran);
-}
+finish-requires g c =
+    let worked = c.in_ok-seats.ensures in
+    record {
+      own =
+          All-same (IsMine c.in_ok-map.map) c.in_ok-seats.seats.items
+          (worker_seats worked.retired) worked.seats
+          (run-mine c.in_ok-map.map (phases_in c.args.phases.now) worked.workers worked.retired
+          worked.ran);
+    }
 
 pub unreachable-requires : goal.unreachable-requires
 unreachable-requires g c =
-    let all = ap length c.in_ok-seats.ensures.seats
-    ∙ run-all c.in_ok-map.map (phases_in c.args.phases.now)
-    c.in_ok-workers.workers.items c.in_ok-ran.ran.items c.args.shape.seats
-    (c.in_ok-workers.ensures.seats ∙ c.in_ok-map.ensures.seats) c.in_ok-ran.ensures.ran in
-    let bad : false ≡ true = c.in_default.ensures.all.1
+    let worked = c.in_ok-seats.ensures in
+    let all = ap length worked.seats
+    ∙ run-all c.in_ok-map.map (phases_in c.args.phases.now) worked.workers worked.retired
+    c.args.shape.seats (worked.seated ∙ c.in_ok-map.ensures.seats) worked.ran in
+    let bad : false ≡ true = c.in-Err.ensures.all.1
     (all ∙ ap (λ p. p.seats) (sym c.in_ok-map.ensures.map)) in
     cc
 
@@ -37,21 +33,17 @@ pub returns : goal.returns
 returns g c =
     let m = c.in_ok-map.map in
     let phases = phases_in c.args.phases.now in
+    let worked = c.in_ok-seats.ensures in
     let shape = c.in_ok-map.ensures.map in
-    let o : Outcome = record {
-      answers = c.in_ok-seats.answers;
-      size = c.size-size.result;
-      entries =
-          c.in_ok-entries.entries;
-    } in
-    let seats = c.in_ok-workers.ensures.seats ∙ c.in_ok-map.ensures.seats
+    let seats = worked.seated ∙ c.in_ok-map.ensures.seats
     ∙ ap (λ p. maps.new_seats m p.seats) (sym shape) in
-    let ended = subst (λ seats. EndedWith seats c.in-Ok.ended)
-    c.in_ok-seats.ensures.seats c.in-Ok.ensures.ended in
-    let left = subst (λ seats. HasTablesLeft m.chain.shape seats c.in-Ok.ended)
-    c.in_ok-seats.ensures.seats c.in-Ok.ensures.tables in
-    subst (λ p. IsOutcome p phases o) shape
-    (is-outcome m c.in_ok-map.ensures.plan phases c.in_ok-workers.workers.items
-    c.in_ok-ran.ran.items c.in-Ok.ended o seats
-    c.in_ok-workers.ensures.fresh c.in_ok-ran.ensures.ran ended left c.in_ok-seats.ensures.answers
-    c.size-size.ensures.keys c.in_ok-entries.ensures)
+    let ended = subst (λ seats. EndedWith seats c.in-Ok.ended) worked.seats
+    c.in-Ok.ensures.ended in
+    let left = subst (λ seats. HasTablesLeft m.chain.shape seats c.in-Ok.ended) worked.seats
+    c.in-Ok.ensures.tables in
+    IfOk-three c.outcome_of.result _ _ _ _
+    (λ o answers size entries. subst (λ p. IsOutcome p phases o) shape
+    (is-outcome m c.in_ok-map.ensures.plan phases worked.workers worked.retired c.in-Ok.ended o
+    seats worked.fresh worked.ran ended left
+    (ap lists_in answers ∙ worked.answered) size entries))
+    c.outcome_of.ensures.answers c.outcome_of.ensures.size c.outcome_of.ensures.entries

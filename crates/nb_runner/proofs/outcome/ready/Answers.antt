@@ -18,12 +18,12 @@ loop-seat-preserved c =
     let same = ap (λ n. length (flat_map (commands_of n) phases)) number in
     let room : length (flat_map (commands_of (length c.loop-seat.workers.items)) phases)
     ≤ vec_capacity c.in_ok-answers.answers =
-    omega (arith, c.in_ok-answers.ensures.capacity, c.in_ok-room.ensures, same) in (
+    omega (arith, c.in_ok-answers.ensures.room, same) in (
       tt,
       tt,
       subst (IsReadying phases c.args.seats.items (into_iter_items c.next.new.self))
           (sym c.push_reserved.ensures.items)
           (readying-more phases _ _ _ _ _ c.loop-seat.invariant.2 c.in-Some.ensures.steps.0 number
-          c.in_ok-answers.ensures.items room),
+          c.in_ok-answers.ensures.empty room),
       omega (arith, c.loop-seat.invariant.3, c.push_reserved.ensures.capacity),
     )

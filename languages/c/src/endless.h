@@ -1,0 +1,303 @@
+/* endless.h - what the files of the map of samvolip_map.h share: map.c, lanes.c, gate.c, renewal.c, whole.c and walks.c, which stand
+   over a proved map, called a core, and are not proved.
+
+   A map has one part, or PARTS by bits of the key once it is large. Each part has a core, which a renewal puts another one in the
+   place of, and a gate. Each thread calls by its lane, which has a seat in each core. The thread's busy word says in which part a call
+   is under way, and whether it may write. The part's gate lets in all calls, or reads alone, or none. A call stores the busy word and
+   then looks at the gate; who closes the gate stores it and then looks at all busy words. Between its two steps each side needs a full
+   fence. A call has none: membarrier gives it to all threads that run when the gate is closed. So either the one who closes sees the
+   busy word, or the call sees the gate. ../model/gate.pml is this for spin, and docs/endless.md tells it in a page. */
+#ifndef ENDLESS_H
+#define ENDLESS_H
+#define _GNU_SOURCE
+#include "objects.h"
+#include <pthread.h>
+#include <stdatomic.h>
+#include <stdbool.h>
+#include <stddef.h>
+
+#ifndef MOST_EXPONENT /* of a table: less for a test */
+#define MOST_EXPONENT SAMVOLIP_MAX_EXPONENT
+#endif
+#ifndef PART_BITS /* how many bits of a key say to which part it belongs */
+#define PART_BITS 3
+#endif
+#ifndef DIVIDED_FROM /* a map of so many slots and more, by their exponent, is in parts: less for a test */
+#define DIVIDED_FROM 17
+#endif
+#define LIKELY(x) __builtin_expect(!!(x), 1)
+#define UNLIKELY(x) __builtin_expect(!!(x), 0)
+#define COLD __attribute__((cold, noinline))
+
+/* Place 0 is of the one part of a map that isn't divided, and the others are of the parts of one that is. */
+enum { PARTS = 1 << PART_BITS, PLACES = 1 + PARTS, MASK = 2 * PARTS - 1 };
+
+/* Lane 0 is of who is alone with a part; those up to SHARED of threads that share; the others have an owner each. */
+enum { SHARED = 6, COMMON = 1 + SHARED };
+
+enum { CELLS = 64 };  /* how many maps a thread knows its lane of; a map's cell goes by its id */
+enum { WALKED = 64 }; /* entries that a walk has taken from the core */
+enum { AGAIN = 2 };   /* beside the codes of a call: it is to be made again */
+
+/* A gate that is open is the map's id. FENCED is open where the system has no membarrier. A place that has no core is CLOSED. */
+enum gate { FENCED = 1, READS_ONLY, CLOSED, FIRST_ID };
+enum busy { REST, READS, WRITES, WAITS }; /* a busy word is one of these plus the part's address; WAITS is of no part */
+
+/* A proved map of one table. */
+typedef struct core {
+    samvolip_seat reserve; /* the seat that no lane has, by which walks are made, with the map's lock */
+    uint64_t walks;        /* that began here */
+    uint64_t number;       /* of all cores of the process */
+    uint32_t exponent;
+    unsigned count;        /* of seats */
+    bool is_over;          /* another one is in its place: the last walk frees it */
+    samvolip_seat seats[]; /* one for each lane */
+} core;
+
+typedef struct part {
+    _Alignas(16) atomic_ullong gate;
+    core *core; /* NULL: the place has no part now */
+} part;
+
+/* A way into the map. */
+typedef struct lane {
+    _Alignas(128) atomic_uintptr_t busy; /* of a lane that threads share: REST, or the busy word of who has it */
+    uint32_t left[PLACES];               /* keys that come or go there until it looks how full the part is */
+} lane;
+
+/* Places that follow each other; and a set of places, a bit for each. */
+typedef struct range {
+    unsigned first, count;
+} range;
+typedef uint32_t place_set;
+static const place_set EVERYWHERE = (place_set)((UINT64_C(1) << PLACES) - 1);
+
+/* Work on all slots of some parts, which whoever waits does a piece of at a time. */
+typedef struct job {
+    struct job *after;    /* among the map's jobs */
+    range from;           /* the parts whose entries are copied or listed */
+    unsigned helpers;
+    atomic_size_t begun;  /* up to where pieces have been taken */
+    size_t size;
+    core *const *to;      /* the cores to come; NULL: the entries are listed */
+    unsigned count;       /* of these */
+    samvolip_entry *list;
+    atomic_size_t listed;
+    atomic_int refused;   /* why a core to come refused an entry */
+} job;
+
+/* A permutation of 64 bits: twice an exclusive or, a multiplication by an odd number, and the bytes turned round. */
+typedef struct mixing {
+    uint64_t with[2], factor[2], inverse[2];
+} mixing;
+
+struct samvolip_map {
+    objects objects;           /* of objects.c, where it comes first */
+    _Alignas(128) uint64_t id; /* no other map of the process has it, not even later; this line is what each call reads */
+    uint64_t mixes_below;      /* which keys are mixed: all, or none */
+    mixing mixing;
+    uint64_t spread;           /* brings all bits of a key into its highest ones; 1 where mixing has done so */
+    atomic_uint mask;          /* 0: the map has one part; else MASK */
+    uint32_t cell;
+    _Alignas(128) part parts[PLACES];
+    _Alignas(128) pthread_mutex_t lock;
+    pthread_cond_t turned; /* a gate, the work or who is alone has changed */
+    atomic_uint held;      /* the places with which somebody is alone, to renew, clear, count, list or fork */
+    job *jobs;             /* that are under way: who waits may help */
+    lane *lanes;
+    struct thread *_Atomic *owners; /* which thread has the lane */
+    unsigned count;                 /* of lanes */
+    atomic_uint taken;              /* lanes with an owner */
+    uint64_t slots;                 /* of the cores that there are, and of those to come */
+    samvolip_map_options options;
+    samvolip_map_figures figures;
+    void *(*let_go)(void); /* samvolip_map_lets_go; NULL: nothing is let go of */
+    void (*take_back)(void *);
+    samvolip_map *after, *before; /* among all maps */
+};
+
+_Static_assert(offsetof(samvolip_map, objects) == 0, "objects.c takes a map for its objects");
+_Static_assert(PLACES <= 32 && DIVIDED_FROM >= PART_BITS + 5, "a place_set has all places, and a part a table");
+
+/* A walk over the cores that a map has at one moment, by their reserves. */
+struct samvolip_map_walk {
+    samvolip_map *map;
+    core *cores[PARTS];
+    unsigned cores_count, core; /* how many they are; in which one the walk is */
+    samvolip_cursor cursor;
+    size_t slot; /* up to which that one was listed */
+    size_t at, count;
+    samvolip_entry some[WALKED];
+};
+
+#pragma GCC visibility push(hidden)
+
+/* What a thread has. */
+extern _Thread_local struct thread {
+    _Atomic(uintptr_t) busy; /* REST, or in the middle of a call; WAITS: in one that is in no core */
+    lane *shared;            /* the lane that it shares, during a call */
+    bool is_over;            /* it ends: it gets no lane any more */
+    uint64_t ids[CELLS];     /* of which map it knows the lane */
+    uint8_t lanes[CELLS];
+} here __attribute__((tls_model("initial-exec")));
+
+/* lanes.c */
+extern pthread_mutex_t all_lock; /* is locked before a map's lock */
+void begin_lanes(void);
+void enlist(samvolip_map *map);
+void delist(samvolip_map *map);
+unsigned find_lane(const samvolip_map *map);
+part *enter_slowly(samvolip_map *map, unsigned what, unsigned share);
+void rest_lane(void);
+void *let_go(const samvolip_map *map);
+void take_back(const samvolip_map *map, void *held);
+
+/* gate.c */
+extern bool has_membarrier;
+void begin_gate(void);
+void lock(samvolip_map *map);
+void unlock(samvolip_map *map);
+void tell(samvolip_map *map);
+void pause_for(unsigned turn);
+uint64_t nanoseconds(void);
+bool admits(const part *into, unsigned what);
+void close_gates(samvolip_map *map, range places, enum gate to);
+void open_gates(samvolip_map *map, range places);
+uint64_t stop(samvolip_map *map, range places, enum gate to);
+void go_on(samvolip_map *map, range places, uint64_t writes, uint64_t reads);
+void share_out(samvolip_map *map, job *job);
+void wait_or_help(samvolip_map *map, place_set places, unsigned mine);
+bool be_alone(samvolip_map *map, place_set places, const part *with, uint64_t number);
+void end_alone(samvolip_map *map, place_set places);
+
+/* renewal.c */
+extern const uint64_t MOST_ROOM;
+int open_cores(samvolip_map *map);
+void free_core(core *one);
+uint64_t keys_in(const samvolip_map *map, range places);
+int clear(samvolip_map *map, samvolip_map_walk *walk);
+int renew_by_hand(samvolip_map *map, uint64_t room);
+int end_write(samvolip_map *map, part *in, int code, bool looks);
+
+/* walks.c */
+void begin_walk(samvolip_map_walk *walk, samvolip_map *map);
+void show_all(samvolip_map_walk *walk, samvolip_map_visit *visit, void *context);
+
+#pragma GCC visibility pop
+
+/* ---- keys ---------------------------------------------------------------------------------- */
+
+static inline uint64_t mix(const mixing *by, uint64_t key)
+{
+    key = __builtin_bswap64((key ^ by->with[0]) * by->factor[0]);
+    return __builtin_bswap64((key ^ by->with[1]) * by->factor[1]);
+}
+
+static inline uint64_t unmix(const mixing *by, uint64_t key)
+{
+    key = (__builtin_bswap64(key) * by->inverse[1]) ^ by->with[1];
+    return (__builtin_bswap64(key) * by->inverse[0]) ^ by->with[0];
+}
+
+/* The key that stands in the core for this one, unless it is no key: two numbers are none. */
+static inline uint64_t mixed_once(const samvolip_map *map, uint64_t key)
+{
+    return LIKELY(key < map->mixes_below) ? mix(&map->mixing, key) : key;
+}
+
+/* The key that stands in the core for this one. One that is mixed to a number that is no key is mixed again. */
+static inline uint64_t inner_key(const samvolip_map *map, uint64_t key)
+{
+    uint64_t inner = mixed_once(map, key);
+    while (inner > SAMVOLIP_KEY_MAX && key <= SAMVOLIP_KEY_MAX)
+        inner = mix(&map->mixing, inner);
+    return inner;
+}
+
+static inline void outer_keys(const samvolip_map *map, samvolip_entry *entries, size_t count)
+{
+    for (size_t i = 0; i < count && map->mixes_below > 0; i++)
+        do
+            entries[i].key = unmix(&map->mixing, entries[i].key);
+        while (entries[i].key > SAMVOLIP_KEY_MAX);
+}
+
+/* Which of the parts of a divided map has a key. A table goes by the lowest bits. */
+static inline unsigned share_of(const samvolip_map *map, uint64_t inner) { return (unsigned)(inner * map->spread >> (64 - PART_BITS)); }
+
+/* The part that has this share now. Before and after a division it isn't in the same place: so if the map is divided, or is no more,
+   after this look, the gate there is closed. */
+static inline part *part_of(samvolip_map *map, unsigned share)
+{
+    return &map->parts[(share + 1) & atomic_load_explicit(&map->mask, memory_order_relaxed)];
+}
+
+/* ---- places and cores ---------------------------------------------------------------------- */
+
+static inline unsigned place_of(const samvolip_map *map, const part *one) { return (unsigned)(one - map->parts); }
+
+/* Where a map has its parts, by its mask. */
+static inline range range_of(unsigned mask) { return mask ? (range){1, PARTS} : (range){0, 1}; }
+static inline range parts_of(const samvolip_map *map) { return range_of(map->mask); }
+static inline place_set set_of(range places) { return ((UINT32_C(1) << places.count) - 1) << places.first; }
+
+static inline uint64_t slots_of(uint32_t exponent) { return UINT64_C(1) << exponent; }
+static inline uint64_t greater(uint64_t one, uint64_t other) { return one > other ? one : other; }
+
+/* ---- how a call begins and ends ------------------------------------------------------------ */
+
+static inline uintptr_t busy_word(const part *in, unsigned what) { return (uintptr_t)in + what; }
+
+static inline bool is_inside(void) { return UNLIKELY(atomic_load_explicit(&here.busy, memory_order_relaxed) != REST); }
+
+/* Marks this thread as in the middle of a call that is in no core, unless it is in another one. */
+static inline bool go_inside(void)
+{
+    if (is_inside())
+        return false;
+    atomic_store_explicit(&here.busy, WAITS, memory_order_relaxed); /* who closes a gate doesn't look for it, but a handler does */
+    atomic_signal_fence(memory_order_seq_cst);
+    return true;
+}
+
+static inline void go_outside(void) { atomic_store_explicit(&here.busy, REST, memory_order_release); }
+
+/* Begins a call in the common case: by the thread's own lane, if the part's gate is open. Else it is NULL, and the thread isn't
+   inside. The busy word comes first: from then on a handler is refused, so that it can't change what the thread knows. */
+static inline samvolip_seat *enter_at_once(samvolip_map *map, part *into, unsigned what)
+{
+    if (is_inside())
+        return NULL;
+    atomic_store_explicit(&here.busy, busy_word(into, what), memory_order_relaxed);
+    atomic_signal_fence(memory_order_seq_cst); /* membarrier makes it a full one */
+    if (LIKELY(here.ids[map->cell] == atomic_load_explicit(&into->gate, memory_order_acquire)))
+        return &into->core->seats[here.lanes[map->cell]];
+    go_outside();
+    return NULL;
+}
+
+/* During a call: the lane by which it is made, and its seat. */
+static inline lane *used_lane(const samvolip_map *map) { return UNLIKELY(here.shared != NULL) ? here.shared : &map->lanes[here.lanes[map->cell]]; }
+static inline samvolip_seat *used_seat(const samvolip_map *map, const part *in) { return &in->core->seats[used_lane(map) - map->lanes]; }
+
+/* During a write by this lane, after which a key has come or gone: whether it is time to look how full the part is. */
+static inline bool counts_down(const samvolip_map *map, lane *used, const part *in) { return used->left[place_of(map, in)]-- == 0; }
+
+static inline void leave(void)
+{
+    if (UNLIKELY(atomic_load_explicit(&here.busy, memory_order_relaxed) == WAITS))
+        rest_lane();
+    go_outside();
+}
+
+/* Begins a call that is alone with the whole map. */
+static inline bool begin_alone(samvolip_map *map) { return go_inside() && be_alone(map, EVERYWHERE, NULL, 0); }
+
+static inline int finish_alone(samvolip_map *map, int code)
+{
+    end_alone(map, EVERYWHERE);
+    go_outside();
+    return code;
+}
+
+#endif
