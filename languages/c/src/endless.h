@@ -30,7 +30,7 @@
 #define COLD __attribute__((cold, noinline))
 
 /* Place 0 is of the one part of a map that isn't divided, and the others are of the parts of one that is. */
-enum { PARTS = 1 << PART_BITS, PLACES = 1 + PARTS, MASK = 2 * PARTS - 1 };
+enum { PARTS = 1 << PART_BITS, PLACES = 1 + PARTS };
 
 /* Lane 0 is of who is alone with a part; those up to SHARED of threads that share; the others have an owner each. */
 enum { SHARED = 6, COMMON = 1 + SHARED };
@@ -97,7 +97,7 @@ struct samvolip_map {
     uint64_t mixes_below;      /* which keys are mixed: all, or none */
     mixing mixing;
     uint64_t spread;           /* brings all bits of a key into its highest ones; 1 where mixing has done so */
-    atomic_uint mask;          /* 0: the map has one part; else MASK */
+    atomic_bool is_divided;    /* it has PARTS parts */
     uint32_t cell;
     _Alignas(128) part parts[PLACES];
     _Alignas(128) pthread_mutex_t lock;
@@ -229,16 +229,16 @@ static inline unsigned share_of(const samvolip_map *map, uint64_t inner) { retur
    after this look, the gate there is closed. */
 static inline part *part_of(samvolip_map *map, unsigned share)
 {
-    return &map->parts[(share + 1) & atomic_load_explicit(&map->mask, memory_order_relaxed)];
+    return &map->parts[UNLIKELY(atomic_load_explicit(&map->is_divided, memory_order_relaxed)) ? 1 + share : 0]; /* a jump: none waits for the key's share */
 }
 
 /* ---- places and cores ---------------------------------------------------------------------- */
 
 static inline unsigned place_of(const samvolip_map *map, const part *one) { return (unsigned)(one - map->parts); }
 
-/* Where a map has its parts, by its mask. */
-static inline range range_of(unsigned mask) { return mask ? (range){1, PARTS} : (range){0, 1}; }
-static inline range parts_of(const samvolip_map *map) { return range_of(map->mask); }
+/* Where a map has its parts, if it is divided or not. */
+static inline range places_if(bool is_divided) { return is_divided ? (range){1, PARTS} : (range){0, 1}; }
+static inline range parts_of(const samvolip_map *map) { return places_if(map->is_divided); }
 static inline place_set set_of(range places) { return ((UINT32_C(1) << places.count) - 1) << places.first; }
 
 static inline uint64_t slots_of(uint32_t exponent) { return UINT64_C(1) << exponent; }
@@ -270,8 +270,9 @@ static inline samvolip_seat *enter_at_once(samvolip_map *map, part *into, unsign
         return NULL;
     atomic_store_explicit(&here.busy, busy_word(into, what), memory_order_relaxed);
     atomic_signal_fence(memory_order_seq_cst); /* membarrier makes it a full one */
-    if (LIKELY(here.ids[map->cell] == atomic_load_explicit(&into->gate, memory_order_acquire)))
-        return &into->core->seats[here.lanes[map->cell]];
+    uint32_t cell = map->cell;
+    if (LIKELY(here.ids[cell] == atomic_load_explicit(&into->gate, memory_order_acquire)))
+        return &into->core->seats[here.lanes[cell]];
     go_outside();
     return NULL;
 }

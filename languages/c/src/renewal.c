@@ -145,7 +145,7 @@ static void change_cores(samvolip_map *map, renewal *of)
             map->lanes[lane].left[of->to.first + i] = left;
     }
     if (of->to.first != of->from.first)
-        map->mask = of->to.first ? MASK : 0;
+        map->is_divided = of->to.first > 0;
     for (of->count = 0; of->count < of->from.count; of->count++)
         of->cores[of->count] = were[of->count];
 }
@@ -199,7 +199,7 @@ static uint64_t with_half(uint64_t keys) { return keys + keys / 2; }
 static uint32_t exponent_for(uint64_t keys) { return exponent_of(with_half(keys)); }
 
 /* Where the parts are of a map of so many slots, and how large each is. */
-static range parts_for(uint32_t exponent) { return range_of(exponent >= DIVIDED_FROM ? MASK : 0); }
+static range parts_for(uint32_t exponent) { return places_if(exponent >= DIVIDED_FROM); }
 static uint32_t exponent_in(range parts, uint32_t exponent) { return parts.count > 1 ? exponent - PART_BITS : exponent; }
 
 /* What is to have room for these keys: the whole map, or one of its parts. */
@@ -264,7 +264,7 @@ static int renew_whole(samvolip_map *map, uint32_t exponent)
         return renew_each(map, exponent - PART_BITS);
     int code = put_in_place(map, from, to, exponent_in(to, exponent), NULL);
     if (code == SAMVOLIP_E_FULL && to.count > 1) /* most keys are of few parts: it isn't divided then */
-        code = put_in_place(map, from, range_of(0), exponent, NULL);
+        code = put_in_place(map, from, places_if(false), exponent, NULL);
     return code;
 }
 
@@ -308,7 +308,7 @@ int open_cores(samvolip_map *map)
     int code = add_cores(map, &first, exponent_in(first.to, exponent));
     for (unsigned i = 0; i < first.count; i++)
         map->parts[first.to.first + i].core = first.cores[i];
-    map->mask = first.to.first ? MASK : 0;
+    map->is_divided = first.to.first > 0;
     return code;
 }
 
@@ -322,7 +322,7 @@ static COLD enum why look_for_time(samvolip_map *map, part *in)
     samvolip_slots found;
     samvolip_occupancy(seat, &found);
     uint64_t slots = slots_of(in->core->exponent), keys = samvolip_size_estimate(seat);
-    uint32_t least = exponent_for(map->options.room / (map->mask ? PARTS : 1));
+    uint32_t least = exponent_for(map->options.room / (map->is_divided ? PARTS : 1));
     bool is_crowded = UINT64_C(3) * found.taken > UINT64_C(2) * found.looked;
     bool is_sparse = slots > slots_of(least) && keys * 8 * map->options.growth < slots;
     used_lane(map)->left[place_of(map, in)] = left_for(map, slots, slots * found.taken / found.looked);
@@ -333,7 +333,7 @@ static COLD enum why look_for_time(samvolip_map *map, part *in)
    parts. */
 static place_set places_for(const samvolip_map *map, const part *in, enum why why)
 {
-    return map->mask == 0 || why == SPARSE ? EVERYWHERE : set_of((range){place_of(map, in), 1});
+    return !map->is_divided || why == SPARSE ? EVERYWHERE : set_of((range){place_of(map, in), 1});
 }
 
 /* Alone with these places: renews the part, or the whole map in place of all its parts. */

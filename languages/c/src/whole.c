@@ -33,14 +33,14 @@ static bool add_keys(samvolip_map *map, unsigned share, uint64_t *sum)
 int samvolip_map_size_estimate(samvolip_map *map, uint64_t *size)
 {
     uint64_t sum;
-    unsigned mask;
+    bool was_divided;
     do { /* again if the map was divided meanwhile, or is no more */
-        mask = map->mask;
+        was_divided = map->is_divided;
         sum = 0;
-        for (unsigned share = 0; share < range_of(mask).count; share++)
+        for (unsigned share = 0; share < places_if(was_divided).count; share++)
             if (!add_keys(map, share, &sum))
                 return SAMVOLIP_E_NESTED;
-    } while (map->mask != mask);
+    } while (map->is_divided != was_divided);
     *size = sum;
     return SAMVOLIP_OK;
 }

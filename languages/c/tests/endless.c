@@ -1123,13 +1123,16 @@ static void a_walk_stays_with_what_was_there(void)
 
 /* ---- parts --------------------------------------------------------------------------------- */
 
-enum { WAVE = 20000, DIVIDED = 1 << 17 }; /* keys of each of four threads; slots that a map of one part hasn't */
+enum { WAVE = 20000, MOST_WAVES = 200, DIVIDED = 1 << 17 }; /* keys of each of four threads; slots that a map of one part hasn't */
 static atomic_ullong most_slots;
 
-/* Keys of its own come, are there, and go again. */
+/* The map was divided, and renewed often. */
+static bool is_worked_over(samvolip_map *map) { return most_slots >= DIVIDED && figures_of(map).renewals > 8; }
+
+/* Keys of its own come, are there, and go again; by the clock, and on until the map is worked over. */
 static void rise_and_fall(struct worker *worker)
 {
-    uint64_t number;
+    uint64_t number, waves = 0;
     do {
         for (uint64_t turn = 0; turn < WAVE; turn++)
             EXPECT(samvolip_map_put(worker->map, own_key(worker, turn), turn, NULL) == SAMVOLIP_ABSENT);
@@ -1143,7 +1146,7 @@ static void rise_and_fall(struct worker *worker)
         }
         worker->added += WAVE;
         worker->calls += 4 * WAVE;
-    } while (goes_on());
+    } while (goes_on() || (!is_worked_over(worker->map) && ++waves < MOST_WAVES));
 }
 
 /* The map is divided and is one part again, more than once, while threads write. */
@@ -1151,9 +1154,10 @@ static void a_map_divides_and_joins_while_threads_write(void)
 {
     for (uint32_t keys = SAMVOLIP_KEYS_SECRET; keys <= SAMVOLIP_KEYS_AS_THEY_ARE; keys += 2) {
         samvolip_map *map = open_map(1, keys ? 3 : 8, keys);
+        most_slots = 0;
         work_by_the_clock(map, 4, rise_and_fall);
         all_is_there(map, 4, 0);
-        EXPECT(most_slots >= DIVIDED && figures_of(map).renewals > 8);
+        EXPECT(is_worked_over(map));
         tell("waves", map, 4);
         for (uint64_t key = 0; key < SHARED_KEYS; key++)
             EXPECT(samvolip_map_remove(map, key, NULL) == SAMVOLIP_PRESENT);
