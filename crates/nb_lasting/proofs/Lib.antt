@@ -1,0 +1,4 @@
+pub mod Alone
+pub mod Logged
+pub mod Sizes
+pub mod Theorems
