@@ -8,6 +8,8 @@ mod lasting;
 pub mod laws;
 mod present;
 mod shapes;
+#[cfg(test)]
+mod tests;
 
 pub use faults::{GrowFault, WriteFault};
 pub use lasting::Lasting;
