@@ -1,0 +1,5 @@
+pub mod Alone
+pub mod Epochs
+pub mod Logged
+pub mod Sizes
+pub mod Theorems

@@ -1,0 +1,14 @@
+-- The calls of a map without an end are one log.
+use Rattle.std.proofs.Common.{◌≡◌, ◌∙◌, List, [], ◌∷◌, ap, sym}
+use Rattle.nb_core.specs.Log.{Entry, IsReplayed, Numbers, map_after, map_of_log, reply_of}
+use Rattle.nb_core.specs.declared.calls.Call.{Call}
+use Rattle.nb_core.specs.declared.calls.Reply.{Reply}
+use Rattle.nb_lasting.specs.Laws.{HaveBeenMade, OneLog, with_calls}
+
+pub one_log : OneLog
+one_log past after [] replayed same = (replayed, sym same)
+one_log past after (newest ∷ made) replayed (then, earlier, is) =
+    let rest = one_log past then made replayed earlier in (
+      (is.replied ∙ ap (reply_of newest.0) (sym rest.1), rest.0),
+      ap (map_after newest.0) rest.1 ∙ sym is.left,
+    )

@@ -1,0 +1,33 @@
+-- How many slots a map has for its keys.
+use Rattle.std.proofs.Common.{◌≡◌, ◌+◌, ◌-◌, ◌/◌, ◌^◌, ◌<◌, ◌≤◌, ◌⊎◌, ℕ, inl, inr, arith}
+use Rattle.std.specs.Prelude.{max, min}
+use Rattle.std.proofs.Math.Pow.{pow_mono}
+use Rattle.std.proofs.lemmas.Bool.{cases_lt}
+use Rattle.nb_core.specs.Plans.{HasRoomFor, Plan, generations_of}
+use Rattle.std.proofs.Common.{get_or}
+use Rattle.nb_core.specs.declared.shapes.TheConstants.{MOST_KEYS}
+use Rattle.nb_lasting.specs.inside.Present.{HasSlots, last_size}
+
+-- a table with nearly as many slots as the greatest one is the greatest
+greatest : (e : ℕ) → 268435455 ≤ 2 ^ e → 2 ^ 28 ≤ 2 ^ e
+greatest e many = of (cases_lt e 28)
+  where
+    of : (e < 28) ⊎ (28 ≤ e) → 2 ^ 28 ≤ 2 ^ e
+    of (inl less) =
+        let few : 2 ^ e ≤ 2 ^ 27 = pow_mono {j = 27} (omega (arith, less)) in
+        absurd (omega (arith, few, many))
+    of (inr more) = pow_mono more
+
+-- a shape that was made for so many keys, or for as many as there may be, has the slots
+pub has-slots :
+    (p : Plan) (keys most : ℕ) → most ≡ min (max keys 20) MOST_KEYS → HasRoomFor p most
+    → HasSlots keys p
+has-slots p keys most is room = of (cases_lt MOST_KEYS (max keys 20))
+  where
+    of : (MOST_KEYS < max keys 20) ⊎ (max keys 20 ≤ MOST_KEYS) → HasSlots keys p
+    of (inl many) =
+        let greatest-keys : most ≡ MOST_KEYS = omega (arith, many, is) in
+        inr (greatest (get_or p.exponents (generations_of p - 1) 0) (omega (arith, room, greatest-keys)))
+    of (inr few) =
+        let enough : most ≡ max keys 20 = omega (arith, few, is) in
+        inl (omega (arith, room, enough))

@@ -1,0 +1,4 @@
+pub mod Lasting
+pub mod Laws
+pub mod Epochs
+pub mod inside

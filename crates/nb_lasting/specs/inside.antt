@@ -1,0 +1,2 @@
+-- Contracts between the crate's own functions. No promise of a public call cites them.
+pub mod Present

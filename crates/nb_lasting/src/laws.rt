@@ -1,0 +1,16 @@
+//! What a crate above may rest on while calls are made one after another. Each function carries a law
+//! as its contract, so that the gate guards it; nobody calls it.
+ghost use Rattle.nb_lasting.specs.Epochs.{OneLogForAll};
+ghost use Rattle.nb_lasting.specs.Laws.{OneLog};
+
+/// There is one log of all calls on a map without an end, over all renewals: each call stands in it
+/// once, in the order of the calls, with the reply of a plain map.
+pub fn one_log()
+    ensures { OneLog }
+{}
+
+/// The same of the handles of `nb_map`, whose seats threads share: where a whole handle is made anew,
+/// again and again, there is one log of the calls of all seats, over all its maps.
+pub fn one_log_for_all()
+    ensures { OneLogForAll }
+{}
