@@ -50,7 +50,7 @@ STORY = [
         (
             "The top word rises",
             "C copies key 8, and closes the empty slot. What a worker finished, it counts. The one that counts the last slot"
-            " raises the top word: from now on calls begin in table 1. There C puts its own key.",
+            " raises the top word: who loads it from now on begins in table 1. There C puts its own key.",
             "C*",
         ),
     ),

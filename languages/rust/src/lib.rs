@@ -44,13 +44,13 @@
 //!
 //! # Panics
 //!
-//! A call that is refused panics, and has changed nothing:
+//! A call that is refused panics; one of a single key has changed nothing:
 //!
 //! - a write of a key or a value that is out of range, or an addition whose sum is;
 //! - a write of a new key, or another call that needs memory, if there is none for the map's tables;
 //! - any call by a signal handler in the middle of another call of its thread.
 //!
-//! Each call that may be refused for a range or for memory has a `try_` form, which answers an [`Error`] in place of that. So
+//! Most calls that may be refused for a range or for memory have a `try_` form, which answers an [`Error`] in place of that. So
 //! [`Map::try_insert`] is [`Map::insert`], and not [`Map::insert_if_absent`].
 //!
 //! The functions that are given to a call may call the map, and may panic.
