@@ -211,3 +211,22 @@ fn refused_memory(rt: HostRuntime) {
     assert!(rt; size == Ok(300));
     assert!(rt; lasting.close(&rt).size() == 300);
 }
+
+/// Maps may go to other threads.
+#[test]
+fn maps_of_threads(rt: HostRuntime) {
+    let Ok(mut maps) = vec![in rt.alloc(); opened(&rt, rt.alloc()), opened(&rt, rt.alloc())] else {
+        panic!(rt; "memory");
+    };
+    std::thread::for_each_mut(
+        &rt,
+        maps.as_mut_slice(),
+        2,
+        &|_, map: &mut Lasting| {
+            let _ = map.put(Key::from(1_u32), Num::from(2_u32));
+        },
+    );
+    for map in maps {
+        assert!(rt; map.close(&rt).size() == 1);
+    }
+}
