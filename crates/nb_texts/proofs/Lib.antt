@@ -1,0 +1,7 @@
+-- Lemmas.
+pub mod AloneLemmas
+pub mod FindingLemmas
+pub mod LinesLemmas
+pub mod PlacesLemmas
+pub mod SourceLemmas
+pub mod Theorems
