@@ -39,11 +39,11 @@ pub underway-ended :
     (some : Bool) → IsUnderway known now texts rest → HasCut some now next rest block rest'
     → some ≡ false → Appends before after (text_of texts)
     → IfSome known (λ input. Appends before after (text_of (distinct (lines_of input))))
-underway-ended None now next before after texts rest rest' block some under cut no written = tt
-underway-ended (Some input) now next before after texts rest rest' block some (left, is, told) cut no
+underway-ended None now next before after texts rest rest' block some under cut ended written = tt
+underway-ended (Some input) now next before after texts rest rest' block some (left, is, told) cut ended
     written =
     let none : rest ++ left ≡ []
-    = subst (λ now. IfSome now (λ input. rest ++ input ≡ [])) is (cut.ended no) in
+    = subst (λ now. IfSome now (λ input. rest ++ input ≡ [])) is (cut.ended ended) in
     let all : texts ≡ distinct (lines_of input)
     = sym (told ∙ ap (λ bytes. with_lines texts (lines_of bytes)) none) in
     subst (λ texts. Appends before after (text_of texts)) all written
