@@ -3,9 +3,9 @@
 //!
 //! With `--numbers` it prints each number once, as `sort -nu` does: the jobs that workers take from a
 //! list in which jobs come again, each by the worker that comes first. That shows how threads share a
-//! set. `LongSet::add` answers whether the key came by this call, and
-//! of all calls at the same time one alone is told so: its worker takes the job. What a worker
-//! keeps is just that, by the contract of `take`.
+//! set. `LongSet::add` answers whether the key came by this call, and of all calls at the same time one
+//! alone is told so: its worker takes the job. What a worker keeps is just that, by the contract of
+//! `take`.
 #![tactic(auto)]
 
 pub(crate) mod lines_once;
