@@ -16,7 +16,7 @@ use Rattle.nb_map.specs.Maps.{IsMadeFor, IsMine, SeatOf, new_seat, new_seats}
 use Rattle.nb_map.specs.OneSeat.{IsOnly, entry_of_first, held}
 use Rattle.nb_map.specs.Renewing.{HasRenewed}
 use Rattle.nb_texts.specs.Entering.{AreReplayed, HasEntered, IsAlone, IsIndex, map_after_calls}
-use Rattle.nb_texts.specs.Lines.{with_lines}
+use Rattle.nb_texts.specs.Lines.{with_new_lines}
 
 -- ---- a new map
 
@@ -106,7 +106,7 @@ pub entered-rest :
     (keys : List ℕ → ℕ → ℕ) (before after : HandleOf) (texts texts' lines : List (List ℕ))
     → IsAlone before → IsIndex keys texts (held before.seat) → KeepsRest before after
     → IsMine after.map after.seat → HasEntered keys before.seat after.seat texts texts' lines
-    → IsAlone after × IsIndex keys texts' (held after.seat) × (texts' ≡ with_lines texts lines)
+    → IsAlone after × IsIndex keys texts' (held after.seat) × (texts' ≡ with_new_lines texts lines)
 entered-rest keys before after texts texts' lines alone index rest mine entered =
     let mine' : IsMine before.map after.seat = subst (λ m. IsMine m after.seat) rest.map mine in
     let logged = one_seat.logged alone.only mine' entered.logged in

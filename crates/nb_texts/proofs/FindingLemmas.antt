@@ -16,7 +16,7 @@ use Rattle.nb_map.specs.Logs.{HasFound, HasLogged}
 use Rattle.nb_map.specs.Maps.{IsMine, MapOf, SeatOf}
 use Rattle.nb_map.specs.NamedCalls.{put_if_absent_of}
 use Rattle.nb_texts.specs.Entering.{AreReplayed, HasEntered, IsFoundAt, IsIndex, map_after_calls}
-use Rattle.nb_texts.specs.Lines.{is_among, with_lines}
+use Rattle.nb_texts.specs.Lines.{is_among, with_new_lines}
 use Rattle.nb_texts.proofs.LinesLemmas.{with-append}
 
 -- ---- a put where nothing is there
@@ -271,6 +271,6 @@ entered-then keys before between after texts texts' texts'' lines more first sec
       let one = first.told m parts.1 index in
       let two = second.told (map_after_calls first.made m) parts.0 one.0 in (
         subst (IsIndex keys texts'') (sym (after-append second.made first.made m)) two.0,
-        two.1 ∙ ap (λ known. with_lines known more) one.1 ∙ sym (with-append texts lines more),
+        two.1 ∙ ap (λ known. with_new_lines known more) one.1 ∙ sym (with-append texts lines more),
       );
 }

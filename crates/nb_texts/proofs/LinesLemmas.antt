@@ -2,7 +2,7 @@
 use Rattle.std.proofs.Common.{◌≡◌, ◌≢◌, ◌∙◌, ◌<◌, ◌==◌, ◌+◌, ℕ, zero, suc, Bool, true, false, cond, if◌then◌else◌, List, [], ◌∷◌, ◌++◌, ap, append-nil, append_assoc, arith, drop, inl, inr, length, refl, slice_index, sym, take}
 use Rattle.std.proofs.lemmas.Bool.{cases_Bool, eq-eqb, ne_eqb}
 use Rattle.std.proofs.lemmas.List.{take-append-drop, take_more}
-use Rattle.nb_texts.specs.Lines.{is_among, lines_of, onto, with_lines}
+use Rattle.nb_texts.specs.Lines.{is_among, lines_of, onto, with_new_lines}
 
 -- ---- the first line
 
@@ -85,7 +85,7 @@ lines-cut text n less is =
 
 pub with-append :
     (known lines more : List (List ℕ))
-    → with_lines known (lines ++ more) ≡ with_lines (with_lines known lines) more
+    → with_new_lines known (lines ++ more) ≡ with_new_lines (with_new_lines known lines) more
 with-append known [] more = refl
 with-append known (line ∷ lines) more =
     with-append (if is_among line known then known else known ++ line ∷ []) lines more
@@ -93,7 +93,7 @@ with-append known (line ∷ lines) more =
 -- what is known stays in front
 pub with-grows :
     (known lines : List (List ℕ))
-    → (more : List (List ℕ)) × (with_lines known lines ≡ known ++ more)
+    → (more : List (List ℕ)) × (with_new_lines known lines ≡ known ++ more)
 with-grows known [] = ([], sym (append-nil known))
 with-grows known (line ∷ lines) = elim (cases_Bool (is_among line known)) [
   | inl old ↦

@@ -22,11 +22,11 @@ abbrev pub is_among : List ℕ → List (List ℕ) → Bool
 is_among line lines = list_any (bytes_eq line) lines
 
 -- these lines, and behind them those of others that aren't among them yet, each where it comes first
-abbrev pub with_lines : List (List ℕ) → List (List ℕ) → List (List ℕ)
-with_lines known [] = known
-with_lines known (line ∷ lines) =
-    with_lines (if is_among line known then known else known ++ line ∷ []) lines
+abbrev pub with_new_lines : List (List ℕ) → List (List ℕ) → List (List ℕ)
+with_new_lines known [] = known
+with_new_lines known (line ∷ lines) =
+    with_new_lines (if is_among line known then known else known ++ line ∷ []) lines
 
 -- the distinct lines, in the order of their first coming
 abbrev pub distinct : List (List ℕ) → List (List ℕ)
-distinct lines = with_lines [] lines
+distinct lines = with_new_lines [] lines

@@ -6,7 +6,7 @@ ghost use Rattle.nb_map.specs.NamedCalls.{put_if_absent_of};
 ghost use Rattle.nb_map.specs.OneSeat.{held};
 ghost use Rattle.nb_texts.specs.Entering.{HasEntered, IsAlone};
 ghost use Rattle.nb_texts.specs.Hashes.{hash_of, key_of};
-ghost use Rattle.nb_texts.specs.Lines.{lines_of, text_of, with_lines};
+ghost use Rattle.nb_texts.specs.Lines.{lines_of, text_of, with_new_lines};
 
 use crate::hashed::hashes_of;
 use crate::hashing::{Hashing, key_after};
@@ -90,7 +90,7 @@ impl Catalog {
         requires rest { IsAtRest self.old }
         ensures rest { OnOk result (IsAtRest self.new) }
         ensures lines { OnOk result (self.new.texts
-            ≡ with_lines self.old.texts (lines_of block.now)) }
+            ≡ with_new_lines self.old.texts (lines_of block.now)) }
     {
         let hashes = hashes_of(rt, alloc, self.hashing, block, workers)?;
         enter_lines(
