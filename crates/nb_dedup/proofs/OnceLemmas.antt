@@ -5,7 +5,7 @@ use Rattle.std.proofs.lemmas.List.{drop_at}
 use Rattle.std.proofs.lemmas.List.Concat.{flat_map-append}
 use Rattle.std.specs.Io.KnownBytes.{Appends, Keeps}
 use Rattle.nb_texts.proofs.Theorems.{with-append, with-grows}
-use Rattle.nb_texts.specs.Lines.{distinct, lines_of, text_of, with_new_lines}
+use Rattle.nb_texts.specs.Lines.{distinct, lines_of, text_of_lines, with_new_lines}
 use Rattle.nb_texts.specs.Sources.{HasCut}
 
 -- the distinct lines of the input are those so far, with the lines of what is left
@@ -37,8 +37,8 @@ underway-more (Some input) now next texts texts' rest rest' block some (left, is
 pub underway-ended :
     (known now next before after : Option (List ℕ)) (texts : List (List ℕ)) (rest rest' block : List ℕ)
     (some : Bool) → IsUnderway known now texts rest → HasCut some now next rest block rest'
-    → some ≡ false → Appends before after (text_of texts)
-    → IfSome known (λ input. Appends before after (text_of (distinct (lines_of input))))
+    → some ≡ false → Appends before after (text_of_lines texts)
+    → IfSome known (λ input. Appends before after (text_of_lines (distinct (lines_of input))))
 underway-ended None now next before after texts rest rest' block some under cut ended written = tt
 underway-ended (Some input) now next before after texts rest rest' block some (left, is, told) cut ended
     written =
@@ -46,29 +46,29 @@ underway-ended (Some input) now next before after texts rest rest' block some (l
     = subst (λ now. IfSome now (λ input. rest ++ input ≡ [])) is (cut.ended ended) in
     let all : texts ≡ distinct (lines_of input)
     = sym (told ∙ ap (λ bytes. with_new_lines texts (lines_of bytes)) none) in
-    subst (λ texts. Appends before after (text_of texts)) all written
+    subst (λ texts. Appends before after (text_of_lines texts)) all written
 
 -- ---- what is written
 
 pub written-none : (known : Option (List ℕ)) (texts : List (List ℕ)) → texts ≡ []
-    → Appends known known (text_of texts)
+    → Appends known known (text_of_lines texts)
 written-none known texts none =
-    subst (λ texts. Appends known known (text_of texts)) (sym none) (Appends-nil known)
+    subst (λ texts. Appends known known (text_of_lines texts)) (sym none) (Appends-nil known)
 
 pub written-more :
     (before now next : Option (List ℕ)) (texts texts' lines : List (List ℕ)) (first : ℕ)
-    → Appends before now (text_of texts) → Appends now next (text_of (drop first texts'))
+    → Appends before now (text_of_lines texts) → Appends now next (text_of_lines (drop first texts'))
     → first ≡ length texts → texts' ≡ with_new_lines texts lines
-    → Appends before next (text_of texts')
+    → Appends before next (text_of_lines texts')
 written-more before now next texts texts' lines first written more is entered =
     let more-lines = with-grows texts lines in
     let added = more-lines.0 in
     let grown = more-lines.1 in
     let behind : drop first texts' ≡ added
     = ap (drop first) (entered ∙ grown) ∙ drop_at texts added first (sym is) in
-    let all : text_of texts ++ text_of (drop first texts') ≡ text_of texts'
-    = ap (λ added. text_of texts ++ text_of added) behind
+    let all : text_of_lines texts ++ text_of_lines (drop first texts') ≡ text_of_lines texts'
+    = ap (λ added. text_of_lines texts ++ text_of_lines added) behind
     ∙ sym (flat_map-append (λ line. line ++ 10 ∷ []) texts added)
-    ∙ ap text_of (sym (entered ∙ grown)) in
+    ∙ ap text_of_lines (sym (entered ∙ grown)) in
     subst (Appends before next) all
-    (Appends-trans before now next (text_of texts) (text_of (drop first texts')) written more)
+    (Appends-trans before now next (text_of_lines texts) (text_of_lines (drop first texts')) written more)

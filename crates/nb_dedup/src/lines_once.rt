@@ -1,7 +1,7 @@
 //! Lines, each printed where it comes first.
 ghost use Rattle.std.specs.Io.KnownBytes.{Appends};
 ghost use Rattle.std.specs.Prelude.{IfSome, OnOk, drop};
-ghost use Rattle.nb_texts.specs.Lines.{distinct, lines_of, text_of};
+ghost use Rattle.nb_texts.specs.Lines.{distinct, lines_of, text_of_lines};
 
 use nb_lines::{Done, ProgramFault, ProgressMeter};
 use nb_texts::{Catalog, Hashing, Source};
@@ -35,7 +35,7 @@ where
     W: Write,
     ensures { OnOk result (IfSome (I.remaining reader.old) (λ input.
         Appends (W.contents writer.old) (W.contents writer.new)
-        (text_of (distinct (lines_of input))))) }
+        (text_of_lines (distinct (lines_of input))))) }
 {
     let mut catalog = Catalog::open(alloc, plan.hashing, plan.room)?;
     let mut source = Source::new(alloc)?;
@@ -71,7 +71,7 @@ fn write_from<W: Write>(
     writer: &mut W,
 ) -> Result<(), ProgramFault>
     ensures { OnOk result (Appends (W.contents writer.old) (W.contents writer.new)
-        (text_of (drop first catalog.now.texts))) }
+        (text_of_lines (drop first catalog.now.texts))) }
 {
     let text = catalog.text_from(alloc, first)?;
     if writer.write_all(text.as_slice()).is_err() || writer.flush().is_err() {

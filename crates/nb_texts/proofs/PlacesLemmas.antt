@@ -5,7 +5,7 @@ use Rattle.std.proofs.Math.Seq.{take-suc}
 use Rattle.std.proofs.lemmas.List.{drop-append-le, drop_at, flat_map_more, get_or-drop, length-drop, map-append, take-append-le, take_all}
 use Rattle.std.proofs.lemmas.Option.{get_or_from_slice_get, slice_get_within}
 use Rattle.std.proofs.lemmas.List.Elements.{All-head, All-push, All-tail, All-weaker}
-use Rattle.nb_texts.specs.Lines.{text_of}
+use Rattle.nb_texts.specs.Lines.{text_of_lines}
 use Rattle.nb_texts.specs.Places.{AreWithin, IsWithin, text_at, texts_at}
 use Rattle.nb_texts.specs.declared.texts.Place.{Place}
 
@@ -87,9 +87,9 @@ range-more xs first n x on at =
 
 pub text-more :
     (texts : List (List ℕ)) (first n : ℕ) (text line : List ℕ) → first ≤ n
-    → slice_get texts n ≡ Some line → text ≡ text_of (slice_range texts first n)
-    → (text ++ line) ++ 10 ∷ [] ≡ text_of (slice_range texts first (n + 1))
+    → slice_get texts n ≡ Some line → text ≡ text_of_lines (slice_range texts first n)
+    → (text ++ line) ++ 10 ∷ [] ≡ text_of_lines (slice_range texts first (n + 1))
 text-more texts first n text line on at told =
     append_assoc text line (10 ∷ []) ∙ ap (λ text. text ++ (line ++ 10 ∷ [])) told
     ∙ flat_map_more (λ line. line ++ 10 ∷ []) [] (slice_range texts first n) line
-    ∙ ap text_of (sym (range-more texts first n line on at))
+    ∙ ap text_of_lines (sym (range-more texts first n line on at))

@@ -14,8 +14,8 @@ lines_of [] = []
 lines_of (byte ∷ text) = if byte == 10 then [] ∷ lines_of text else onto byte (lines_of text)
 
 -- the text of lines, each with a newline
-abbrev pub text_of : List (List ℕ) → List ℕ
-text_of lines = flat_map (λ line. line ++ 10 ∷ []) lines
+abbrev pub text_of_lines : List (List ℕ) → List ℕ
+text_of_lines lines = flat_map (λ line. line ++ 10 ∷ []) lines
 
 -- whether the line is one of these
 abbrev pub is_among : List ℕ → List (List ℕ) → Bool

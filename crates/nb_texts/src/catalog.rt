@@ -6,7 +6,7 @@ ghost use Rattle.nb_map.specs.NamedCalls.{put_if_absent_of};
 ghost use Rattle.nb_map.specs.OneSeat.{held};
 ghost use Rattle.nb_texts.specs.Entering.{HasEntered, IsAlone};
 ghost use Rattle.nb_texts.specs.Hashes.{hash_of, key_of};
-ghost use Rattle.nb_texts.specs.Lines.{lines_of, text_of, with_new_lines};
+ghost use Rattle.nb_texts.specs.Lines.{lines_of, text_of_lines, with_new_lines};
 
 use crate::hashed::hashes_of;
 use crate::hashing::{Hashing, key_after};
@@ -57,7 +57,7 @@ impl Catalog {
 
     /// The text of the lines from a place on, each with a newline.
     pub fn text_from(&self, alloc: Global, first: usize) -> Result<Vec<u8>, OutOfMemory>
-        ensures { IfOk result (λ text. text.items ≡ text_of (drop first self.now.texts)) }
+        ensures { IfOk result (λ text. text.items ≡ text_of_lines (drop first self.now.texts)) }
     {
         self.texts.text_from(alloc, first)
     }

@@ -1,6 +1,6 @@
 //! Texts one behind another, which only grow.
 ghost use Rattle.std.specs.Prelude.{◌≡◌, ◌↔◌, ◌++◌, ◌∷◌, [], IfOk, IsTrue, OnOk, Some, drop, length, slice_get};
-ghost use Rattle.nb_texts.specs.Lines.{text_of};
+ghost use Rattle.nb_texts.specs.Lines.{text_of_lines};
 
 use nb_core::OutOfMemory;
 use std::alloc::Global;
@@ -72,7 +72,7 @@ impl Texts {
 
     /// The text of those from a place on, each with a newline.
     pub fn text_from(&self, alloc: Global, first: usize) -> Result<Vec<u8>, OutOfMemory>
-        ensures { IfOk result (λ text. text.items ≡ text_of (drop first self.now)) }
+        ensures { IfOk result (λ text. text.items ≡ text_of_lines (drop first self.now)) }
     {
         let mut text = Vec::new(alloc);
         for place in first..self.places.len() {
