@@ -1,7 +1,7 @@
 //! Lines, each printed where it comes first.
 ghost use Rattle.std.specs.Io.KnownBytes.{Appends};
 ghost use Rattle.std.specs.Prelude.{IfSome, OnOk, drop};
-ghost use Rattle.nb_texts.specs.Lines.{distinct, lines_of, text_of_lines};
+ghost use Rattle.nb_texts.specs.Lines.{distinct, lines_in, text_of_lines};
 
 use nb_lines::{Done, ProgramFault, ProgressMeter};
 use nb_texts::{Catalog, Hashing, Source};
@@ -35,7 +35,7 @@ where
     W: Write,
     ensures { OnOk result (IfSome (I.remaining reader.old) (λ input.
         Appends (W.contents writer.old) (W.contents writer.new)
-        (text_of_lines (distinct (lines_of input))))) }
+        (text_of_lines (distinct (lines_in input))))) }
 {
     let mut catalog = Catalog::open(alloc, plan.hashing, plan.room)?;
     let mut source = Source::new(alloc)?;

@@ -1,7 +1,7 @@
 -- An input that is read piece by piece, and cut behind a newline.
 use Rattle.std.proofs.Common.{◌≡◌, ◌∙◌, ℕ, Bool, true, false, List, [], ◌∷◌, ◌++◌, None, Option, Some, IfSome, ap, append-nil, append_assoc, refl, subst, sym}
 use Rattle.std.specs.Io.KnownBytes.{Consumes, IsAtEnd, Keeps}
-use Rattle.nb_texts.specs.Lines.{lines_of}
+use Rattle.nb_texts.specs.Lines.{lines_in}
 use Rattle.nb_texts.specs.Sources.{HasCut}
 use Rattle.nb_texts.proofs.LinesLemmas.{lines-append}
 
@@ -49,9 +49,9 @@ cut-behind (Some input) now before block rest front (left, here, same) is = reco
   cut = (
     left,
     here,
-    ap lines_of (same ∙ append_assoc block rest left ∙ ap (λ block. block ++ (rest ++ left)) is)
+    ap lines_in (same ∙ append_assoc block rest left ∙ ap (λ block. block ++ (rest ++ left)) is)
         ∙ lines-append front (rest ++ left)
-        ∙ ap (λ block. lines_of block ++ lines_of (rest ++ left)) (sym is),
+        ∙ ap (λ block. lines_in block ++ lines_in (rest ++ left)) (sym is),
   );
   ended = λ no. absurd cc;
 }
@@ -68,9 +68,9 @@ cut-all some (Some input) now before block (left, is, same) end empty =
       cut = (
         left,
         is,
-        ap lines_of (same ∙ ap (λ left. block ++ left) none ∙ append-nil block)
-            ∙ sym (append-nil (lines_of block))
-            ∙ ap (λ left. lines_of block ++ lines_of ([] ++ left)) (sym none),
+        ap lines_in (same ∙ ap (λ left. block ++ left) none ∙ append-nil block)
+            ∙ sym (append-nil (lines_in block))
+            ∙ ap (λ left. lines_in block ++ lines_in ([] ++ left)) (sym none),
       );
       ended = λ no. same ∙ ap (λ block. block ++ left) (empty no) ∙ none;
     }

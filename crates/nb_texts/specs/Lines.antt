@@ -9,9 +9,9 @@ onto byte [] = (byte ∷ []) ∷ []
 onto byte (line ∷ lines) = (byte ∷ line) ∷ lines
 
 -- the lines of a text: a newline ends each of them, but the last one needs none
-abbrev pub lines_of : List ℕ → List (List ℕ)
-lines_of [] = []
-lines_of (byte ∷ text) = if byte == 10 then [] ∷ lines_of text else onto byte (lines_of text)
+abbrev pub lines_in : List ℕ → List (List ℕ)
+lines_in [] = []
+lines_in (byte ∷ text) = if byte == 10 then [] ∷ lines_in text else onto byte (lines_in text)
 
 -- the text of lines, each with a newline
 abbrev pub text_of_lines : List (List ℕ) → List ℕ

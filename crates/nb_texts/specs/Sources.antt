@@ -1,7 +1,7 @@
 -- What a read of a block does to the lines of an input.
 use Rattle.std.specs.Prelude.{◌≡◌, Bool, false, List, [], ◌∷◌, ◌++◌, ℕ, Option, Some, IfSome}
 use Rattle.std.specs.Io.KnownBytes.{Consumes, IsAtEnd}
-use Rattle.nb_texts.specs.Lines.{lines_of}
+use Rattle.nb_texts.specs.Lines.{lines_in}
 use Rattle.nb_texts.specs.declared.source.Turn.{Turn}
 use Rattle.nb_texts.specs.declared.source.Turn.TheVariants.{Cut, Ended, More}
 
@@ -11,7 +11,7 @@ pub record HasCut (some : Bool) (known known' : Option (List ℕ)) (before block
     Type 0 where
   pub cut :
       IfSome known (λ input. (left : List ℕ) × (known' ≡ Some left)
-      × (lines_of (before ++ input) ≡ lines_of block ++ lines_of (rest ++ left)))
+      × (lines_in (before ++ input) ≡ lines_in block ++ lines_in (rest ++ left)))
   pub ended : some ≡ false → IfSome known (λ input. before ++ input ≡ [])
 
 -- A block that is cut ends with a newline. Else nothing is behind it, and where the input has ended,

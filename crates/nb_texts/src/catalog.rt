@@ -6,7 +6,7 @@ ghost use Rattle.nb_map.specs.NamedCalls.{put_if_absent_of};
 ghost use Rattle.nb_map.specs.OneSeat.{held};
 ghost use Rattle.nb_texts.specs.Entering.{HasEntered, IsAlone};
 ghost use Rattle.nb_texts.specs.Hashes.{hash_of, key_of};
-ghost use Rattle.nb_texts.specs.Lines.{lines_of, text_of_lines, with_new_lines};
+ghost use Rattle.nb_texts.specs.Lines.{lines_in, text_of_lines, with_new_lines};
 
 use crate::hashed::hashes_of;
 use crate::hashing::{Hashing, key_after};
@@ -90,7 +90,7 @@ impl Catalog {
         requires rest { IsAtRest self.old }
         ensures rest { OnOk result (IsAtRest self.new) }
         ensures lines { OnOk result (self.new.texts
-            ≡ with_new_lines self.old.texts (lines_of block.now)) }
+            ≡ with_new_lines self.old.texts (lines_in block.now)) }
     {
         let hashes = hashes_of(rt, alloc, self.hashing, block, workers)?;
         enter_lines(
@@ -144,10 +144,10 @@ fn enter_lines<R: Wait>(
     block: &[u8],
     hashes: &[u64],
 ) -> Result<(), ProgramFault>
-    requires { hashes.now ≡ map (hash_of hashing) (lines_of block.now) }
+    requires { hashes.now ≡ map (hash_of hashing) (lines_in block.now) }
     ensures rest { KeepsRest handle.old handle.new }
     ensures entered { OnOk result (HasEntered (key_of hashing) handle.old.seat handle.new.seat
-        texts.old texts.new (lines_of block.now)) }
+        texts.old texts.new (lines_in block.now)) }
 {
     handle.known();
     let mut rest = block;

@@ -1,7 +1,7 @@
 //! The hashes of a text's lines, by several threads.
 ghost use Rattle.std.specs.Prelude.{◌≡◌, ◌++◌, IfOk, map};
 ghost use Rattle.nb_texts.specs.Hashes.{hash_of};
-ghost use Rattle.nb_texts.specs.Lines.{lines_of};
+ghost use Rattle.nb_texts.specs.Lines.{lines_in};
 
 use crate::hashing::Hashing;
 use crate::lines::{split_line, split_text};
@@ -21,7 +21,7 @@ pub(crate) fn hashes_of<R: Threads + Sync>(
     text: &[u8],
     threads: usize,
 ) -> Result<Vec<u64>, OutOfMemory>
-    ensures { IfOk result (λ hashes. hashes.items ≡ map (hash_of hashing) (lines_of text.now)) }
+    ensures { IfOk result (λ hashes. hashes.items ≡ map (hash_of hashing) (lines_in text.now)) }
 {
     match threads.min(text.len() / WORTH) {
         0 | 1 => hashes_by_one(alloc, hashing, text),
@@ -33,7 +33,7 @@ pub(crate) fn hashes_of<R: Threads + Sync>(
 
 /// The same, by one.
 fn hashes_by_one(alloc: Global, hashing: Hashing, text: &[u8]) -> Result<Vec<u64>, OutOfMemory>
-    ensures { IfOk result (λ hashes. hashes.items ≡ map (hash_of hashing) (lines_of text.now)) }
+    ensures { IfOk result (λ hashes. hashes.items ≡ map (hash_of hashing) (lines_in text.now)) }
 {
     let mut hashes = Vec::new(alloc);
     let mut rest = text;
@@ -52,7 +52,7 @@ fn hashes_by_two<R: Threads + Sync>(
     hashing: Hashing,
     text: &[u8],
 ) -> Result<Vec<u64>, OutOfMemory>
-    ensures { IfOk result (λ hashes. hashes.items ≡ map (hash_of hashing) (lines_of text.now)) }
+    ensures { IfOk result (λ hashes. hashes.items ≡ map (hash_of hashing) (lines_in text.now)) }
 {
     let (front, back) = split_text(text, text.len() / 2);
     let (first, second) = thread::join(
@@ -70,7 +70,7 @@ fn hashes_by_four<R: Threads + Sync>(
     hashing: Hashing,
     text: &[u8],
 ) -> Result<Vec<u64>, OutOfMemory>
-    ensures { IfOk result (λ hashes. hashes.items ≡ map (hash_of hashing) (lines_of text.now)) }
+    ensures { IfOk result (λ hashes. hashes.items ≡ map (hash_of hashing) (lines_in text.now)) }
 {
     let (front, back) = split_text(text, text.len() / 2);
     let (first, second) = thread::join(
@@ -88,7 +88,7 @@ fn hashes_by_eight<R: Threads + Sync>(
     hashing: Hashing,
     text: &[u8],
 ) -> Result<Vec<u64>, OutOfMemory>
-    ensures { IfOk result (λ hashes. hashes.items ≡ map (hash_of hashing) (lines_of text.now)) }
+    ensures { IfOk result (λ hashes. hashes.items ≡ map (hash_of hashing) (lines_in text.now)) }
 {
     let (front, back) = split_text(text, text.len() / 2);
     let (first, second) = thread::join(

@@ -2,7 +2,7 @@ use Rattle.std.proofs.Common.{◌≡◌, ◌∙◌, ◌<◌, ◌+◌, [], ◌∷
 use Rattle.std.proofs.lemmas.List.{drop_more}
 use Rattle.nb_texts.proofs.FindingLemmas.{entered-none, entered-then}
 use Rattle.nb_texts.specs.Hashes.{hash_of, key_of}
-use Rattle.nb_texts.specs.Lines.{lines_of}
+use Rattle.nb_texts.specs.Lines.{lines_in}
 use Rattle.nb_texts.proofs.catalog.enter_lines.Goals as goal
 
 pub loop-hash-init : goal.loop-hash-init
@@ -26,10 +26,10 @@ loop-hash-preserved g c =
     let line = c.split_line.result.0.now in
     let next = c.split_line.result.1.now in
     let done = now.invariant.2.0 in
-    let split : lines_of now.rest.now ≡ line ∷ lines_of next = c.split_line.ensures.line in
+    let split : lines_in now.rest.now ≡ line ∷ lines_in next = c.split_line.ensures.line in
     let less : now.hash-index < length c.args.hashes.now = c.loop-hash-test.true in
     let hashes : get_or c.args.hashes.now now.hash-index 0 ∷ drop (now.hash-index + 1) c.args.hashes.now
-    ≡ hash line ∷ map hash (lines_of next)
+    ≡ hash line ∷ map hash (lines_in next)
     = sym (drop_more c.args.hashes.now now.hash-index 0 less) ∙ now.invariant.1 ∙ ap (map hash) split in (
       record {
         map = rest.map ∙ now.invariant.0.map;
@@ -39,7 +39,7 @@ loop-hash-preserved g c =
       (
         done ++ line ∷ [],
         now.invariant.2.1 ∙ ap (λ lines. done ++ lines) split
-            ∙ sym (append_assoc done (line ∷ []) (lines_of next)),
+            ∙ sym (append_assoc done (line ∷ []) (lines_in next)),
         entered-then (key_of c.args.hashing) before.seat now.handle.seat c.enter_line.new.handle.seat
             c.args.texts.now now.texts c.enter_line.new.texts done (line ∷ []) now.invariant.2.2
             c.in_ok-enter_line.ensures.entered,

@@ -3,7 +3,7 @@ use Rattle.std.proofs.lemmas.Bool.{eqb-true}
 use Rattle.std.proofs.lemmas.List.{get_or-drop, take_rest}
 use Rattle.std.specs.Prelude.{slice_index}
 use Rattle.nb_texts.proofs.LinesLemmas.{lines-cut}
-use Rattle.nb_texts.specs.Lines.{lines_of}
+use Rattle.nb_texts.specs.Lines.{lines_in}
 use Rattle.nb_texts.proofs.lines.split_text.Goals as goal
 
 pub returns-in-Some : goal.returns-in-Some
@@ -21,6 +21,6 @@ returns-in-Some c =
     record {
       lines =
           lines-cut text (at + more) less is
-          ∙ ap₂ (λ front back. lines_of front ++ lines_of back) (sym c.split_at.ensures.front)
+          ∙ ap₂ (λ front back. lines_in front ++ lines_in back) (sym c.split_at.ensures.front)
           (sym c.split_at.ensures.back);
     }
