@@ -4,7 +4,7 @@ ghost use Rattle.std.specs.Prelude.{IfSome, OnOk, drop};
 ghost use Rattle.nb_texts.specs.Lines.{distinct, lines_in, text_of_lines};
 
 use nb_lines::{Done, ProgramFault, ProgressMeter};
-use nb_texts::{Catalog, Hashing, Source};
+use nb_texts::{Catalog, Hashing, LineSource};
 use std::alloc::Global;
 use std::io::{Read, Write};
 use std::sync::Wait;
@@ -38,7 +38,7 @@ where
         (text_of_lines (distinct (lines_in input))))) }
 {
     let mut catalog = Catalog::open(alloc, plan.hashing, plan.room)?;
-    let mut source = Source::new(alloc)?;
+    let mut source = LineSource::new(alloc)?;
     let mut done = Done::NOTHING;
     for _ in 0..u64::MAX {
         if !source.refill(reader)? {

@@ -11,5 +11,5 @@ hash_of hashing text = bit_and (finish (write hashing.hasher text)) hashing.mask
 unfoldable pub key_after : (hash tries : ℕ) → ℕ
 key_after hash tries = (hash + tries) % 2 ^ 64 % 2 ^ 63
 
-abbrev pub key_of : Hashing → List ℕ → (tries : ℕ) → ℕ
-key_of hashing text tries = key_after (hash_of hashing text) tries
+abbrev pub key_for : Hashing → List ℕ → (tries : ℕ) → ℕ
+key_for hashing text tries = key_after (hash_of hashing text) tries

@@ -22,7 +22,7 @@ EndsBy known block rest Ended = (rest ≡ []) × IsAtEnd known
 EndsBy known block rest More = rest ≡ []
 
 -- What the reader gave stands behind the block, and in the rest.
-pub record HasReadOn (known known' : Option (List ℕ)) (block block' rest : List ℕ) (turn : Turn) :
+pub record HasTakenIn (known known' : Option (List ℕ)) (block block' rest : List ℕ) (turn : Turn) :
     Type 0 where
   pub bytes : List ℕ
   pub took : Consumes known known' bytes

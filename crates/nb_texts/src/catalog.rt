@@ -5,7 +5,7 @@ ghost use Rattle.nb_map.specs.Logs.{HasFound};
 ghost use Rattle.nb_map.specs.NamedCalls.{put_if_absent_of};
 ghost use Rattle.nb_map.specs.OneSeat.{held};
 ghost use Rattle.nb_texts.specs.Entering.{HasEntered, IsAlone};
-ghost use Rattle.nb_texts.specs.Hashes.{hash_of, key_of};
+ghost use Rattle.nb_texts.specs.Hashes.{hash_of, key_for};
 ghost use Rattle.nb_texts.specs.Lines.{lines_in, text_of_lines, with_new_lines};
 
 use crate::hashed::hashes_of;
@@ -146,7 +146,7 @@ fn enter_lines<R: Wait>(
 ) -> Result<(), ProgramFault>
     requires { hashes.now ≡ map (hash_of hashing) (lines_in block.now) }
     ensures rest { KeepsRest handle.old handle.new }
-    ensures entered { OnOk result (HasEntered (key_of hashing) handle.old.seat handle.new.seat
+    ensures entered { OnOk result (HasEntered (key_for hashing) handle.old.seat handle.new.seat
         texts.old texts.new (lines_in block.now)) }
 {
     handle.known();
@@ -173,7 +173,7 @@ fn enter_line<R: Wait>(
 ) -> Result<usize, ProgramFault>
     requires { hash ≡ hash_of hashing line.now }
     ensures rest { KeepsRest handle.old handle.new }
-    ensures entered { OnOk result (HasEntered (key_of hashing) handle.old.seat handle.new.seat
+    ensures entered { OnOk result (HasEntered (key_for hashing) handle.old.seat handle.new.seat
         texts.old texts.new (line.now ∷ [])) }
     ensures placed { IfOk result (λ place. slice_get texts.new place ≡ Some line.now) }
 {

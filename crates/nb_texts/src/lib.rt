@@ -3,7 +3,7 @@
 //! A [`Catalog`] has the distinct lines of what was entered, in the order of their first coming. A
 //! line is found by its keyed hash in a map, and is compared byte for byte, so lines of one hash are
 //! kept apart. The map is made anew, larger, before a block of lines might not find room. A
-//! [`Source`] reads an input in blocks of whole lines.
+//! [`LineSource`] reads an input in blocks of whole lines.
 #![tactic(auto)]
 
 mod catalog;
@@ -16,5 +16,5 @@ mod texts;
 pub use catalog::Catalog;
 pub use hashing::Hashing;
 pub use lines::split_line;
-pub use source::Source;
+pub use source::LineSource;
 pub use texts::Texts;

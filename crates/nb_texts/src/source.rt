@@ -1,7 +1,7 @@
 //! An input, read in blocks of whole lines.
 ghost use Rattle.std.specs.Io.KnownBytes.{Consumes, IsAtEnd, Keeps};
 ghost use Rattle.std.specs.Prelude.{◌≡◌, ◌<◌, ◌≤◌, [], IfOk, MatchOption, length, take};
-ghost use Rattle.nb_texts.specs.Sources.{HasCut, HasReadOn};
+ghost use Rattle.nb_texts.specs.Sources.{HasCut, HasTakenIn};
 
 use memchr::{memchr_iter, memrchr};
 use nb_lines::ProgramFault;
@@ -25,18 +25,18 @@ pub(crate) enum Turn {
 
 /// What was read of an input: a block of whole lines, and what came behind it.
 #[derive(Drop)]
-pub struct Source {
+pub struct LineSource {
     block: Vec<u8>,
     rest: Vec<u8>,
     room: Vec<u8>,
 }
 
-impl Source {
+impl LineSource {
     /// Nothing was read.
-    pub fn new(alloc: Global) -> Result<Source, ProgramFault>
+    pub fn new(alloc: Global) -> Result<LineSource, ProgramFault>
         ensures { IfOk result (λ source. source.rest.items ≡ []) }
     {
-        Ok(Source {
+        Ok(LineSource {
             block: Vec::new(alloc),
             rest: Vec::new(alloc),
             room: vec![in alloc; 0_u8; AHEAD]?,
@@ -88,7 +88,7 @@ fn read_on<I: Read>(
     rest: &mut Vec<u8>,
 ) -> Result<Turn, ProgramFault>
     requires { rest.old.items ≡ [] }
-    ensures { IfOk result (HasReadOn (I.remaining reader.old) (I.remaining reader.new)
+    ensures { IfOk result (HasTakenIn (I.remaining reader.old) (I.remaining reader.new)
         block.old.items block.new.items rest.new.items) }
 {
     if room.is_empty() {

@@ -4,21 +4,21 @@ use Rattle.nb_map.specs.Logs.{HasFound}
 use Rattle.nb_map.specs.NamedCalls.{put_if_absent_of}
 use Rattle.nb_texts.proofs.FindingLemmas.{entered-found, entered-new, get-last, tried-more, tried-none}
 use Rattle.nb_texts.specs.Entering.{HasEntered}
-use Rattle.nb_texts.specs.Hashes.{key_after, key_of}
+use Rattle.nb_texts.specs.Hashes.{key_after, key_for}
 use Rattle.nb_texts.proofs.catalog.enter_line.Goals as goal
 
 pub loop-tries-init : goal.loop-tries-init
 loop-tries-init g c = (
   record { map = refl; reserve = refl },
   refl,
-  tried-none (key_of c.args.hashing c.args.line.now) c.args.handle.now.map c.args.handle.now.seat
+  tried-none (key_for c.args.hashing c.args.line.now) c.args.handle.now.map c.args.handle.now.seat
       c.args.texts.now c.args.line.now c.known.ensures.own,
 )
 
 pub returns-in-None-clause-entered : goal.returns-in-None-clause-entered
 returns-in-None-clause-entered g c =
     let now = c.loop-tries in
-    let keys = key_of c.args.hashing in
+    let keys = key_for c.args.hashing in
     let texts = c.args.texts.now in
     let line = c.args.line.now in
     let P : ℕ → Option ℕ → Type 0 = λ key number. HasFound (put_if_absent_of key c.in_ok-number.number)
@@ -44,7 +44,7 @@ returns-in-None-clause-placed g c =
 pub returns-then-is_at-clause-entered : goal.returns-then-is_at-clause-entered
 returns-then-is_at-clause-entered g c =
     let now = c.loop-tries in
-    let keys = key_of c.args.hashing in
+    let keys = key_for c.args.hashing in
     let texts = c.args.texts.now in
     let line = c.args.line.now in
     let P : ℕ → Option ℕ → Type 0 = λ key number. HasFound (put_if_absent_of key c.in_ok-number.number)
@@ -63,7 +63,7 @@ returns-then-is_at-clause-entered g c =
 pub loop-tries-preserved : goal.loop-tries-preserved
 loop-tries-preserved g c =
     let now = c.loop-tries in
-    let keys = key_of c.args.hashing in
+    let keys = key_for c.args.hashing in
     let texts = c.args.texts.now in
     let line = c.args.line.now in
     let P : ℕ → Option ℕ → Type 0 = λ key number. HasFound (put_if_absent_of key c.in_ok-number.number)

@@ -1,7 +1,7 @@
 use Rattle.std.proofs.Common.{◌≡◌, ◌∙◌, ◌<◌, ◌+◌, [], ◌∷◌, ◌++◌, ap, append_assoc, drop, get_or, length, map, refl, sym}
 use Rattle.std.proofs.lemmas.List.{drop_more}
 use Rattle.nb_texts.proofs.FindingLemmas.{entered-none, entered-then}
-use Rattle.nb_texts.specs.Hashes.{hash_of, key_of}
+use Rattle.nb_texts.specs.Hashes.{hash_of, key_for}
 use Rattle.nb_texts.specs.Lines.{lines_in}
 use Rattle.nb_texts.proofs.catalog.enter_lines.Goals as goal
 
@@ -12,7 +12,7 @@ loop-hash-init g c = (
   (
     [],
     refl,
-    entered-none (key_of c.args.hashing) c.args.handle.now.map c.args.handle.now.seat
+    entered-none (key_for c.args.hashing) c.args.handle.now.map c.args.handle.now.seat
         c.args.texts.now c.known.ensures.own,
   ),
 )
@@ -40,7 +40,7 @@ loop-hash-preserved g c =
         done ++ line ∷ [],
         now.invariant.2.1 ∙ ap (λ lines. done ++ lines) split
             ∙ sym (append_assoc done (line ∷ []) (lines_in next)),
-        entered-then (key_of c.args.hashing) before.seat now.handle.seat c.enter_line.new.handle.seat
+        entered-then (key_for c.args.hashing) before.seat now.handle.seat c.enter_line.new.handle.seat
             c.args.texts.now now.texts c.enter_line.new.texts done (line ∷ []) now.invariant.2.2
             c.in_ok-enter_line.ensures.entered,
       ),

@@ -1,7 +1,7 @@
 use Rattle.std.proofs.Common.{◌≡◌, ◌++◌, List, ℕ, drop, map}
 use Rattle.nb_map.specs.Handles.{KeepsRest}
 use Rattle.nb_texts.specs.Entering.{HasEntered}
-use Rattle.nb_texts.specs.Hashes.{hash_of, key_of}
+use Rattle.nb_texts.specs.Hashes.{hash_of, key_for}
 use Rattle.nb_texts.specs.Lines.{lines_in}
 use Rattle.nb_texts.proofs.catalog.enter_lines.Given as goal
 
@@ -10,4 +10,4 @@ invariant-loop-hash g l =
     KeepsRest l.fn.handle l.handle
     × (drop l.hash-index l.hashes ≡ map (hash_of l.hashing) (lines_in l.rest))
     × ((done : List (List ℕ)) × (lines_in l.fn.block ≡ done ++ lines_in l.rest)
-    × HasEntered (key_of l.hashing) l.fn.handle.seat l.handle.seat l.fn.texts l.texts done)
+    × HasEntered (key_for l.hashing) l.fn.handle.seat l.handle.seat l.fn.texts l.texts done)

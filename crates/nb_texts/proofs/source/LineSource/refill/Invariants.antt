@@ -1,6 +1,6 @@
 use Rattle.std.proofs.Common.{◌≡◌, []}
 use Rattle.nb_texts.proofs.SourceLemmas.{HasRead}
-use Rattle.nb_texts.proofs.source.Source.refill.Given as goal
+use Rattle.nb_texts.proofs.source.LineSource.refill.Given as goal
 
 abbrev pub invariant-loop : goal.invariant-loop
 invariant-loop g l =
