@@ -1,9 +1,10 @@
 -- A text is looked for at one key after another.
-use Rattle.std.proofs.Common.{◌≡◌, ◌≢◌, ◌∙◌, ◌+◌, ◌<◌, ℕ, zero, suc, Bool, true, false, cond, eqb, if◌then◌else◌, List, [], ◌∷◌, ◌++◌, None, Option, Some, ap, arith, below_more, inl, inr, ◌⊎◌, length, refl, subst, sym}
+use Rattle.std.proofs.Common.{◌≡◌, ◌≢◌, ◌∙◌, ◌+◌, ◌<◌, ℕ, zero, suc, Bool, true, false, cond, eqb, if◌then◌else◌, List, [], ◌∷◌, ◌++◌, None, Option, Some, ap, ap₂, arith, below_more, inl, inr, ◌⊎◌, length, map, refl, subst, sym}
 use Rattle.std.specs.Cmp.{nat_cmp_total, unsigned_tied}
 use Rattle.std.specs.FinMap.{get, get-insert, insert}
 use Rattle.std.specs.Prelude.{slice_get}
 use Rattle.std.proofs.lemmas.Bool.{cases_Bool, cases_lt, eq-eqb, eqb-true, or_left, or_right}
+use Rattle.std.proofs.lemmas.List.{map-append}
 use Rattle.std.proofs.lemmas.Slice.Eq.{bytes_eq-Decides}
 use Rattle.core.specs.Str.{bytes_eq}
 use Rattle.nb_core.specs.Log.{Numbers, changed, holds_of, map_after, reply_of, with_at}
@@ -54,7 +55,7 @@ got-kept m k n j v none there = got m k n j ∙ of (eqb j k) refl
 
 -- ---- lists
 
-get-left :
+pub get-left :
     {X : Type 0} (xs ys : List X) (i : ℕ) (x : X) → slice_get xs i ≡ Some x
     → slice_get (xs ++ ys) i ≡ Some x
 get-left [] ys i x at = absurd cc
@@ -65,7 +66,7 @@ pub get-last : {X : Type 0} (xs : List X) (y : X) → slice_get (xs ++ y ∷ [])
 get-last [] y = refl
 get-last (x ∷ xs) y = get-last xs y
 
-get-push :
+pub get-push :
     {X : Type 0} (xs : List X) (y : X) (i : ℕ) (x : X) → slice_get (xs ++ y ∷ []) i ≡ Some x
     → (slice_get xs i ≡ Some x) ⊎ (i ≡ length xs) × (x ≡ y)
 get-push [] y zero x at = inr (refl, cc)
@@ -76,7 +77,7 @@ get-push (z ∷ xs) y (suc i) x at = elim (get-push xs y i x at) [
   | inr last ↦ inr (ap suc last.0, last.1)
 ]
 
-among : (texts : List (List ℕ)) (text : List ℕ) (i : ℕ) → slice_get texts i ≡ Some text
+pub among : (texts : List (List ℕ)) (text : List ℕ) (i : ℕ) → slice_get texts i ≡ Some text
     → is_among text texts ≡ true
 among [] text i at = absurd cc
 among (t ∷ texts) text zero at =
@@ -84,7 +85,7 @@ among (t ∷ texts) text zero at =
 among (t ∷ texts) text (suc i) at =
     or_right (bytes_eq text t) (is_among text texts) (among texts text i at)
 
-not-among :
+pub not-among :
     (texts : List (List ℕ)) (text : List ℕ) → ((i : ℕ) → slice_get texts i ≢ Some text)
     → is_among text texts ≡ false
 not-among [] text other = refl
@@ -274,3 +275,30 @@ entered-then keys before between after texts texts' texts'' lines more first sec
         two.1 ∙ ap (λ known. with_new_lines known more) one.1 ∙ sym (with-append texts lines more),
       );
 }
+
+-- ---- the places of lines
+
+places-kept :
+    (texts more : List (List ℕ)) (places : List ℕ) (lines : List (List ℕ))
+    → map (slice_get texts) places ≡ map Some lines
+    → map (slice_get (texts ++ more)) places ≡ map Some lines
+places-kept texts more [] [] are = refl
+places-kept texts more [] (line ∷ lines) are = absurd cc
+places-kept texts more (place ∷ places) [] are = absurd cc
+places-kept texts more (place ∷ places) (line ∷ lines) are =
+    let here : slice_get texts place ≡ Some line = cc in
+    let rest : map (slice_get texts) places ≡ map Some lines = cc in
+    ap₂ (λ (one : Option (List ℕ)) others. one ∷ others) (get-left texts more place line here)
+    (places-kept texts more places lines rest)
+
+pub places-more :
+    (texts texts' more : List (List ℕ)) (places : List ℕ) (lines : List (List ℕ)) (place : ℕ)
+    (line : List ℕ) → texts' ≡ texts ++ more → map (slice_get texts) places ≡ map Some lines
+    → slice_get texts' place ≡ Some line
+    → map (slice_get texts') (places ++ place ∷ []) ≡ map Some (lines ++ line ∷ [])
+places-more texts texts' more places lines place line grown are at =
+    map-append (slice_get texts') places (place ∷ [])
+    ∙ ap₂ (λ (some : List (Option (List ℕ))) one. some ++ one ∷ [])
+    (subst (λ texts'. map (slice_get texts') places ≡ map Some lines) (sym grown)
+    (places-kept texts more places lines are)) at
+    ∙ sym (map-append Some lines (line ∷ []))

@@ -4,4 +4,5 @@ pub mod FindingLemmas
 pub mod LinesLemmas
 pub mod PlacesLemmas
 pub mod SourceLemmas
+pub mod TallyLemmas
 pub mod Theorems

@@ -5,3 +5,4 @@ pub mod Hashes
 pub mod Lines
 pub mod Places
 pub mod Sources
+pub mod Tallies

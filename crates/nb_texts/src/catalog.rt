@@ -1,5 +1,5 @@
 //! A catalog: the distinct lines of a stream, found by their hashes in a map.
-ghost use Rattle.std.specs.Prelude.{◌≡◌, [], ◌∷◌, IfOk, OnOk, Some, drop, length, map, slice_get};
+ghost use Rattle.std.specs.Prelude.{◌≡◌, ◌++◌, [], ◌∷◌, ℕ, IfOk, List, OnOk, Some, drop, length, map, slice_get};
 ghost use Rattle.nb_map.specs.Handles.{KeepsRest};
 ghost use Rattle.nb_map.specs.Logs.{HasFound};
 ghost use Rattle.nb_map.specs.NamedCalls.{put_if_absent_of};
@@ -78,23 +78,26 @@ impl Catalog {
         Ok(())
     }
 
-    /// Enters the lines of a block, in their order. Several workers hash them. For each line that
-    /// isn't there yet the map needs room.
+    /// Enters the lines of a block, in their order, and answers their places. Several workers hash
+    /// them. For each line that isn't there yet the map needs room.
     pub fn enter<R: Threads + Sync + Wait>(
         &mut self,
         rt: &R,
         alloc: Global,
         block: &[u8],
         workers: usize,
-    ) -> Result<(), ProgramFault>
+    ) -> Result<Vec<usize>, ProgramFault>
         requires rest { IsAtRest self.old }
         ensures rest { OnOk result (IsAtRest self.new) }
         ensures lines { OnOk result (self.new.texts
             ≡ with_new_lines self.old.texts (lines_in block.now)) }
+        ensures places { IfOk result (λ places. map (slice_get self.new.texts) places.items
+            ≡ map Some (lines_in block.now)) }
     {
         let hashes = hashes_of(rt, alloc, self.hashing, block, workers)?;
-        enter_lines(
+        let places = enter_lines(
             rt,
+            alloc,
             &mut self.texts,
             &mut self.handle,
             self.hashing,
@@ -102,7 +105,7 @@ impl Catalog {
             hashes.as_slice(),
         )?;
         self.handle.known();
-        Ok(())
+        Ok(places)
     }
 }
 
@@ -135,31 +138,36 @@ fn renew(alloc: Global, handle: &mut Handle, shape: Shape) -> Result<(), Program
     }
 }
 
-/// Enters the lines of a block, whose hashes these are, one after another.
+/// Enters the lines of a block, whose hashes these are, one after another, and answers their places.
 fn enter_lines<R: Wait>(
     rt: &R,
+    alloc: Global,
     texts: &mut Texts,
     handle: &mut Handle,
     hashing: Hashing,
     block: &[u8],
     hashes: &[u64],
-) -> Result<(), ProgramFault>
+) -> Result<Vec<usize>, ProgramFault>
     requires { hashes.now ≡ map (hash_of hashing) (lines_in block.now) }
     ensures rest { KeepsRest handle.old handle.new }
     ensures entered { OnOk result (HasEntered (key_for hashing) handle.old.seat handle.new.seat
         texts.old texts.new (lines_in block.now)) }
+    ensures places { IfOk result (λ places. map (slice_get texts.new) places.items
+        ≡ map Some (lines_in block.now)) }
 {
     handle.known();
+    let mut places = Vec::with_capacity(alloc, hashes.len())?;
     let mut rest = block;
     for hash in hashes {
         if rest.is_empty() {
             break;
         }
         let (line, next) = split_line(rest);
-        enter_line(rt, texts, handle, hashing, line, *hash)?;
+        let place = enter_line(rt, texts, handle, hashing, line, *hash)?;
+        places.push(place)?;
         rest = next;
     }
-    Ok(())
+    Ok(places)
 }
 
 /// Enters a line, which has this hash, and answers its place among the texts.
@@ -175,6 +183,7 @@ fn enter_line<R: Wait>(
     ensures rest { KeepsRest handle.old handle.new }
     ensures entered { OnOk result (HasEntered (key_for hashing) handle.old.seat handle.new.seat
         texts.old texts.new (line.now ∷ [])) }
+    ensures grown { OnOk result ((more : List (List ℕ)) × (texts.new ≡ texts.old ++ more)) }
     ensures placed { IfOk result (λ place. slice_get texts.new place ≡ Some line.now) }
 {
     handle.known();

@@ -11,10 +11,12 @@ mod hashed;
 mod hashing;
 mod lines;
 mod source;
+mod tally;
 mod texts;
 
 pub use catalog::Catalog;
 pub use hashing::Hashing;
 pub use lines::split_line;
 pub use source::LineSource;
+pub use tally::Tally;
 pub use texts::Texts;

@@ -6,7 +6,6 @@ ghost use Rattle.nb_texts.specs.Sources.{HasCut, HasTakenIn};
 use memchr::{memchr_iter, memrchr};
 use nb_lines::ProgramFault;
 use std::alloc::Global;
-use std::io;
 use std::io::{ErrorKind, Read};
 
 /// How many bytes are asked for at once.

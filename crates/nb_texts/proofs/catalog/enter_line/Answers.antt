@@ -1,4 +1,4 @@
-use Rattle.std.proofs.Common.{◌≡◌, ◌≢◌, ◌∙◌, [], ◌∷◌, ◌++◌, None, Option, Some, ap, length, refl, subst, subst₂, sym, ℕ}
+use Rattle.std.proofs.Common.{◌≡◌, ◌≢◌, ◌∙◌, [], ◌∷◌, ◌++◌, None, Option, Some, ap, append-nil, length, refl, subst, subst₂, sym, ℕ}
 use Rattle.std.specs.Prelude.{slice_get}
 use Rattle.nb_map.specs.Logs.{HasFound}
 use Rattle.nb_map.specs.NamedCalls.{put_if_absent_of}
@@ -85,3 +85,14 @@ loop-tries-preserved g c =
       tried-more (keys line) c.args.handle.now.seat now.handle.seat c.put.new.handle.seat texts line
           now.tries c.in_ok-number.number now.invariant.2 c.get-found.result found other,
     )
+
+pub returns-in-None-clause-grown : goal.returns-in-None-clause-grown
+returns-in-None-clause-grown g c = (
+  c.args.line.now ∷ [],
+  c.in_ok-push-in-None.ensures
+      ∙ ap (λ texts. texts ++ c.args.line.now ∷ []) c.loop-tries.invariant.1,
+)
+
+pub returns-then-is_at-clause-grown : goal.returns-then-is_at-clause-grown
+returns-then-is_at-clause-grown g c =
+    ([], c.loop-tries.invariant.1 ∙ sym (append-nil c.args.texts.now))

@@ -1,6 +1,7 @@
 use Rattle.std.proofs.Common.{◌≡◌, ◌∙◌, ◌<◌, ◌+◌, [], ◌∷◌, ◌++◌, ap, append_assoc, drop, get_or, length, map, refl, sym}
+use Rattle.std.specs.Prelude.{slice_get}
 use Rattle.std.proofs.lemmas.List.{drop_more}
-use Rattle.nb_texts.proofs.FindingLemmas.{entered-none, entered-then}
+use Rattle.nb_texts.proofs.FindingLemmas.{entered-none, entered-then, places-more}
 use Rattle.nb_texts.specs.Hashes.{hash_of, key_for}
 use Rattle.nb_texts.specs.Lines.{lines_in}
 use Rattle.nb_texts.proofs.catalog.enter_lines.Goals as goal
@@ -14,6 +15,7 @@ loop-hash-init g c = (
     refl,
     entered-none (key_for c.args.hashing) c.args.handle.now.map c.args.handle.now.seat
         c.args.texts.now c.known.ensures.own,
+    ap (map (slice_get c.args.texts.now)) c.in_ok-places.ensures.items,
   ),
 )
 
@@ -21,7 +23,7 @@ pub loop-hash-preserved : goal.loop-hash-preserved
 loop-hash-preserved g c =
     let now = c.loop-hash in
     let before = c.args.handle.now in
-    let rest = c.in_ok-enter_line.ensures.rest in
+    let rest = c.in_ok-place.ensures.rest in
     let hash = hash_of c.args.hashing in
     let line = c.split_line.result.0.now in
     let next = c.split_line.result.1.now in
@@ -42,6 +44,10 @@ loop-hash-preserved g c =
             ∙ sym (append_assoc done (line ∷ []) (lines_in next)),
         entered-then (key_for c.args.hashing) before.seat now.handle.seat c.enter_line.new.handle.seat
             c.args.texts.now now.texts c.enter_line.new.texts done (line ∷ []) now.invariant.2.2
-            c.in_ok-enter_line.ensures.entered,
+            c.in_ok-place.ensures.entered,
+        ap (map (slice_get c.enter_line.new.texts)) c.in_ok-push.ensures.items
+            ∙ places-more now.texts c.enter_line.new.texts c.in_ok-place.ensures.grown.0
+            now.places.items done c.in_ok-place.place line c.in_ok-place.ensures.grown.1
+            now.invariant.2.3 c.in_ok-place.ensures.placed,
       ),
     )

@@ -8,7 +8,7 @@ returns-clause-rest g c =
     let before = c.args.self.now in
     let done = entered-rest (key_for before.hashing) before.handle c.enter_lines.new.handle before.texts
     c.enter_lines.new.texts (lines_in c.args.block.now) c.requires.rest.alone c.requires.rest.index
-    c.in_ok-enter_lines.ensures.rest c.known.ensures.own c.in_ok-enter_lines.ensures.entered in
+    c.in_ok-places.ensures.rest c.known.ensures.own c.in_ok-places.ensures.entered in
     record { alone = done.0; index = done.1 }
 
 pub returns-clause-lines : goal.returns-clause-lines
@@ -16,5 +16,5 @@ returns-clause-lines g c =
     let before = c.args.self.now in
     let done = entered-rest (key_for before.hashing) before.handle c.enter_lines.new.handle before.texts
     c.enter_lines.new.texts (lines_in c.args.block.now) c.requires.rest.alone c.requires.rest.index
-    c.in_ok-enter_lines.ensures.rest c.known.ensures.own c.in_ok-enter_lines.ensures.entered in
+    c.in_ok-places.ensures.rest c.known.ensures.own c.in_ok-places.ensures.entered in
     done.2
