@@ -47,7 +47,7 @@ where
         let known = catalog.len();
         let lines = source.newlines();
         catalog.make_room(alloc, lines.saturating_add(1))?;
-        catalog.enter(rt, alloc, source.block(), plan.workers)?;
+        let _places = catalog.enter(rt, alloc, source.block(), plan.workers)?;
         write_from(alloc, &catalog, known, writer)?;
         done = with_block(done, lines, source.block());
         plan.progress.tell_done(rt, done);

@@ -179,8 +179,8 @@ module _
     (are : map (slice_get texts') places ≡ map Some block)
     (many : length counts' ≡ length texts')
     (counted :
-        (q : ℕ) → q < length texts'
-        → slice_index counts' q ≡ slice_index counts q + count_by (λ place. place == q) places)
+    (q : ℕ) → q < length texts'
+    → slice_index counts' q ≡ slice_index counts q + count_by (λ place. place == q) places)
   where
     all-once : IsOnce texts'
     all-once =

@@ -62,6 +62,11 @@ impl Catalog {
         self.texts.text_from(alloc, first)
     }
 
+    /// The line at a place.
+    pub fn get(&self, place: usize) -> Option<&[u8]> {
+        self.texts.get(place)
+    }
+
     /// Makes the map anew where it might not have room for so many more lines.
     pub fn make_room(&mut self, alloc: Global, lines: usize) -> Result<(), ProgramFault>
         requires rest { IsAtRest self.old }

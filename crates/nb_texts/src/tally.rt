@@ -9,6 +9,14 @@ use std::alloc::Global;
 use std::sync::Wait;
 use std::thread::Threads;
 
+/// A line, with how often it came, and how many others came first before it.
+#[derive(Clone, Copy, PartialEq, Eq, PartialOrd, Ord)]
+pub struct Row<'a> {
+    pub line: &'a [u8],
+    pub times: u64,
+    pub place: usize,
+}
+
 /// The distinct lines of what was entered, in the order of their first coming, each with how often it
 /// came.
 #[derive(Drop)]
@@ -29,6 +37,18 @@ impl Tally {
             catalog,
             counts: Vec::new(alloc),
         }
+    }
+
+    /// The lines, in the order of their first coming.
+    pub fn rows(&self, alloc: Global) -> Result<Vec<Row<'_>>, ProgramFault> {
+        let mut rows = Vec::new(alloc);
+        for (place, times) in self.counts.iter().enumerate() {
+            if let Some(line) = self.catalog.get(place) {
+                let times = *times;
+                rows.push(Row { line, times, place })?;
+            }
+        }
+        Ok(rows)
     }
 
     /// Enters the lines of a block, of which there are no more than so many, and counts them. Several

@@ -70,6 +70,12 @@ impl Texts {
         &self.bytes[start..end] == text
     }
 
+    /// The text at a place.
+    pub fn get(&self, place: usize) -> Option<&[u8]> {
+        let Place { start, end } = *self.places.get(place)?;
+        Some(&self.bytes[start..end])
+    }
+
     /// The text of those from a place on, each with a newline.
     pub fn text_from(&self, alloc: Global, first: usize) -> Result<Vec<u8>, OutOfMemory>
         ensures { IfOk result (λ text. text.items ≡ text_of_lines (drop first self.now)) }
