@@ -4,7 +4,7 @@ ghost use Rattle.nb_texts.specs.Lines.{lines_in};
 ghost use Rattle.nb_texts.specs.Tallies.{IsTally};
 
 use nb_lines::{Done, ProgramFault, ProgressMeter};
-use nb_texts::{Catalog, Hashing, LineSource, Tally};
+use nb_texts::{Catalog, Hashing, LineSource, LineTally};
 use std::alloc::Global;
 use std::io::Read;
 use std::sync::Wait;
@@ -27,14 +27,14 @@ pub(crate) fn tally_lines<R, I>(
     alloc: Global,
     plan: Plan,
     reader: &mut I,
-) -> Result<Tally, ProgramFault>
+) -> Result<LineTally, ProgramFault>
 where
     R: Threads + Sync + Wait + Eprint,
     I: Read,
     ensures { IfOk result (λ tally. IfSome (I.remaining reader.old) (λ input.
         IsTally (lines_in input) tally.catalog.texts tally.counts.items)) }
 {
-    let mut tally = Tally::new(alloc, Catalog::open(alloc, plan.hashing, plan.room)?);
+    let mut tally = LineTally::new(alloc, Catalog::open(alloc, plan.hashing, plan.room)?);
     let mut source = LineSource::new(alloc)?;
     let mut done = Done::NOTHING;
     for _ in 0..u64::MAX {

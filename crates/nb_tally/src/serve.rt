@@ -5,7 +5,7 @@ use crate::lines_counted::{Plan, tally_lines};
 use crate::options::{LINE, LineOptions, Options, Task, task_of};
 use crate::printing::{print, print_rows, sort, sort_rows};
 use nb_lines::{ProgramFault, ProgressMeter};
-use nb_texts::{Hashing, Tally};
+use nb_texts::{Hashing, LineTally};
 use std::alloc::Global;
 use std::io;
 use std::io::Read;
@@ -53,7 +53,7 @@ where
 fn print_tally<W: io::Write + Drop>(
     alloc: Global,
     writer: W,
-    tally: &Tally,
+    tally: &LineTally,
     options: LineOptions,
 ) -> Result<(), ProgramFault> {
     let mut rows = tally.rows(alloc)?;

@@ -18,5 +18,5 @@ pub use catalog::Catalog;
 pub use hashing::Hashing;
 pub use lines::split_line;
 pub use source::LineSource;
-pub use tally::{Row, Tally};
+pub use tally::{LineTally, Row};
 pub use texts::Texts;

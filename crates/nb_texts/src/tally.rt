@@ -20,20 +20,20 @@ pub struct Row<'a> {
 /// The distinct lines of what was entered, in the order of their first coming, each with how often it
 /// came.
 #[derive(Drop)]
-pub struct Tally {
+pub struct LineTally {
     pub(crate) catalog: Catalog,
     pub(crate) counts: Vec<u64>,
 }
 
-impl Tally {
+impl LineTally {
     ghost use Rattle.nb_texts.specs.Catalogs.{IsAtRest};
 
     /// Nothing was entered in a catalog that has no lines.
-    pub fn new(alloc: Global, catalog: Catalog) -> Tally
+    pub fn new(alloc: Global, catalog: Catalog) -> LineTally
         ensures catalog { result.catalog ≡ catalog }
         ensures counts { result.counts.items ≡ [] }
     {
-        Tally {
+        LineTally {
             catalog,
             counts: Vec::new(alloc),
         }

@@ -10,10 +10,10 @@ loop-preserved g c =
     let texts = now.catalog.texts in
     let block = c.refill.new.self.block.items in
     let entered : c.enter.new.self.texts ≡ with_new_lines texts (lines_in block)
-    = c.in_ok-enter.ensures.lines
+    = c.in_ok-_places.ensures.lines
     ∙ ap₂ (λ texts block. with_new_lines texts (lines_in block)) c.in_ok-make_room.ensures.same
     c.block.ensures in (
-      c.in_ok-enter.ensures.rest,
+      c.in_ok-_places.ensures.rest,
       underway-more (rem c.args.reader.now) (rem now.reader) (rem c.refill.new.reader) texts
           c.enter.new.self.texts now.source.rest.items c.refill.new.self.rest.items block
           c.in_ok-refill.field-0 now.invariant.1 c.in_ok-refill.ensures entered,

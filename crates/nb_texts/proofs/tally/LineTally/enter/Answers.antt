@@ -2,7 +2,7 @@ use Rattle.std.proofs.Common.{◌≡◌, ◌∙◌, ◌+◌, ◌==◌, ap, arith
 use Rattle.std.specs.Prelude.{count_by, slice_index}
 use Rattle.nb_texts.proofs.TallyLemmas.{tally-more}
 use Rattle.nb_texts.specs.Lines.{lines_in, with_new_lines}
-use Rattle.nb_texts.proofs.tally.Tally.enter.Goals as goal
+use Rattle.nb_texts.proofs.tally.LineTally.enter.Goals as goal
 
 pub returns-clause-tally : goal.returns-clause-tally
 returns-clause-tally g c = λ lines tally.
