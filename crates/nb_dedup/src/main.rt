@@ -1,11 +1,14 @@
-//! `nb_dedup` prints each number of standard input once, as `sort -nu` does: the jobs that workers
-//! take from a list in which jobs come again, each by the worker that comes first.
+//! `nb_dedup` prints each line of standard input once, where it comes first, as `awk '!n[$0]++'`
+//! does. What it writes for what it reads is the contract of `print_once`.
 //!
-//! It shows how threads share a set. `LongSet::add` answers whether the key came by this call, and
-//! of all calls at the same time one alone is told so: its worker takes the job. What a worker
-//! keeps is just that, by the contract of `take`.
+//! With `--numbers` it prints each number once, as `sort -nu` does: the jobs that workers take from a
+//! list in which jobs come again, each by the worker that comes first. That shows how threads share a
+//! set. `LongSet::add` answers whether the key came by this call, and of all calls at the same time one
+//! alone is told so: its worker takes the job. What a worker keeps is just that, by the contract of
+//! `take`.
 #![tactic(auto)]
 
+pub(crate) mod lines_once;
 pub(crate) mod options;
 pub(crate) mod printing;
 pub(crate) mod serve;

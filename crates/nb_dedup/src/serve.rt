@@ -1,11 +1,14 @@
 //! The program: its words, what it reads and what it prints.
 
-use crate::options::{LINE, options_of};
+use crate::lines_once::{Plan, print_once};
+use crate::options::{LINE, LineOptions, Options, Task, task_of};
 use crate::printing::print;
 use crate::taking::take_all;
 use nb_lines::{ProgramFault, ProgressMeter};
+use nb_texts::Hashing;
 use std::io;
 use std::io::Read;
+use std::random::RandomSource;
 use std::rt::Env;
 use std::sync::Wait;
 use std::thread::Threads;
@@ -13,10 +16,67 @@ use std::thread::Threads;
 /// Serves a process: does what its words ask for.
 pub(crate) fn serve<R, I>(rt: &R, reader: I, progress: ProgressMeter) -> Result<(), ProgramFault>
 where
-    R: Env + Threads + Sync + Wait + Print + Eprint + AllocGlobal,
+    R: Env + Threads + Sync + Wait + Print + Eprint + AllocGlobal + RandomSource,
     I: Read + Send + Drop,
 {
-    let options = options_of(rt.alloc(), &LINE.given(rt)?)?;
+    match task_of(rt.alloc(), &LINE.given(rt)?)? {
+        Task::Lines(options) => once(rt, options, reader, progress),
+        Task::Numbers(options) => numbers(rt, options, reader, progress),
+    }
+}
+
+/// Prints each line once.
+fn once<R, I>(
+    rt: &R,
+    options: LineOptions,
+    reader: I,
+    progress: ProgressMeter,
+) -> Result<(), ProgramFault>
+where
+    R: Threads + Sync + Wait + Print + Eprint + AllocGlobal + RandomSource,
+    I: Read + Drop,
+{
+    let plan = Plan {
+        hashing: Hashing::new(seed_of(rt, options)?, options.bits),
+        workers: options.workers,
+        room: options.room,
+        progress,
+    };
+    let mut reader = reader;
+    let mut writer = io::writer(rt);
+    let printed = print_once(rt, rt.alloc(), plan, &mut reader, &mut writer);
+    progress.end(rt);
+    printed
+}
+
+/// The key of the hash function: the one that is given, or else one from the machine's randomness.
+fn seed_of<R: RandomSource>(rt: &R, options: LineOptions) -> Result<u64, ProgramFault> {
+    match options.seed {
+        Some(seed) => Ok(seed),
+        None => random(rt),
+    }
+}
+
+/// A number from the machine's randomness.
+fn random<R: RandomSource>(rt: &R) -> Result<u64, ProgramFault> {
+    let mut bytes = [0; 8];
+    match rt.fill_bytes(&mut bytes) {
+        Ok(()) => Ok(u64::from_le_bytes(bytes)),
+        Err(_) => Err(ProgramFault::Read),
+    }
+}
+
+/// Prints each number once.
+fn numbers<R, I>(
+    rt: &R,
+    options: Options,
+    reader: I,
+    progress: ProgressMeter,
+) -> Result<(), ProgramFault>
+where
+    R: Threads + Sync + Wait + Print + Eprint + AllocGlobal,
+    I: Read + Send + Drop,
+{
     let jobs = take_all(rt, rt.alloc(), &options, reader, progress)?;
     print(
         rt.alloc(),

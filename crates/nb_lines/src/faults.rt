@@ -144,6 +144,8 @@ pub enum ProgramFault {
     Line(u64, Cause),
     #[error("more different numbers than there is room for")]
     Full,
+    #[error("more different lines than there is room for")]
+    FullOfLines,
     #[error("more keys online than there is room for")]
     Crowded,
     #[error("a number comes too often")]
@@ -164,7 +166,10 @@ impl ProgramFault {
             ProgramFault::Line(..) => 2,
             ProgramFault::Usage => 3,
             ProgramFault::OutOfMemory => 4,
-            ProgramFault::Full | ProgramFault::Crowded | ProgramFault::TooOften => 5,
+            ProgramFault::Full
+            | ProgramFault::FullOfLines
+            | ProgramFault::Crowded
+            | ProgramFault::TooOften => 5,
             ProgramFault::Unshown => 6,
         }
     }

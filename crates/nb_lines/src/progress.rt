@@ -22,7 +22,7 @@ pub struct Done {
 }
 
 impl Done {
-    pub(crate) const NOTHING: Done = Done { lines: 0, bytes: 0 };
+    pub const NOTHING: Done = Done { lines: 0, bytes: 0 };
 }
 
 /// Tells progress, or nothing.
@@ -61,7 +61,10 @@ impl ProgressMeter {
     }
 
     /// Tells how many lines are done and, where the input tells its size, which part of it that is.
-    fn tell_done(self, rt: &impl Eprint, done: Done) {
+    pub fn tell_done(self, rt: &impl Eprint, done: Done) {
+        if !self.is_told {
+            return;
+        }
         let Done { lines, bytes } = done;
         let _ = match self.size {
             Some(size) => {

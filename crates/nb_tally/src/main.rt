@@ -1,11 +1,13 @@
-//! `nb_tally` counts how often each number comes on standard input, as `sort -n | uniq -c` does.
+//! `nb_tally` counts how often each line comes on standard input, as `sort | uniq -c` does. That each
+//! distinct line is counted once, and exactly, is the contract of `tally_lines`.
 //!
-//! It shows how threads share a map by handles: each worker takes a block of lines from the input,
+//! With `--numbers` it counts numbers. That shows how threads share a map by handles: each worker takes a block of lines from the input,
 //! which a lock guards, and adds 1 at the key of each number, for which it takes no lock. When all
 //! workers are done a walk by one of the handles shows the counts.
 #![tactic(auto)]
 
 pub(crate) mod counting;
+pub(crate) mod lines_counted;
 pub(crate) mod options;
 pub(crate) mod printing;
 pub(crate) mod serve;

@@ -1,7 +1,9 @@
 //! The words of the command line.
 
 use nb_core::{MAX_EXPONENT, Shape};
-use nb_lines::{Argument, CommandLine, Form, Given, NumberWord, ProgramFault, WORKERS, WordsFault};
+use nb_lines::{
+    Argument, CommandLine, Form, Given, NumberWord, ProgramFault, WORKERS, WordsFault, wrong_word,
+};
 use std::alloc::Global;
 
 /// The most slots of a table, and so the most different numbers that any map has room for.
@@ -19,7 +21,58 @@ const KEYS: NumberWord = NumberWord {
     high: 268_435_456,
 };
 
-/// What is to be counted, and how.
+/// `--seed N`: the key of the hash function.
+const SEED: NumberWord = NumberWord {
+    name: "--seed",
+    low: 0,
+    high: u64::MAX,
+};
+
+/// `--bits N`: how many bits of a hash count.
+const BITS: NumberWord = NumberWord {
+    name: "--bits",
+    low: 0,
+    high: 64,
+};
+
+/// `--by ORDER`.
+const BY: &str = "--by";
+
+/// What is asked for.
+#[derive(Clone, Copy)]
+pub(crate) enum Task {
+    Lines(LineOptions),
+    Numbers(Options),
+}
+
+/// In which order lines are printed.
+#[derive(Clone, Copy)]
+pub(crate) enum Order {
+    /// The most frequent first, and equally frequent ones by their first coming.
+    Count,
+    /// By their bytes.
+    Line,
+    /// By their first coming.
+    First,
+}
+
+/// How lines are to be counted.
+#[derive(Clone, Copy)]
+pub(crate) struct LineOptions {
+    /// How many threads hash lines.
+    pub(crate) workers: usize,
+    /// For how many different lines there is room at first.
+    pub(crate) room: usize,
+    /// The key of the hash function, where it is given.
+    pub(crate) seed: Option<u64>,
+    /// How many bits of a hash count.
+    pub(crate) bits: u32,
+    pub(crate) order: Order,
+    /// How many lines are printed, if not all are.
+    pub(crate) top: Option<u64>,
+}
+
+/// What numbers are to be counted, and how.
 #[derive(Clone, Copy)]
 pub(crate) struct Options {
     /// How many threads count.
@@ -43,44 +96,98 @@ impl Options {
 
 /// What `--help` tells behind the options.
 const MORE: &str = "\
-Each line is one number from 0 to 18446744073709551613, in digits only. It ends
-with a newline, or with a carriage return and a newline.
+A line is any bytes up to a newline. There is no end to what may come but that of
+memory. With --top lines are printed by count, else by line, unless --by says how;
+equally frequent ones as they came first.
+
+With --numbers each line is one number from 0 to 18446744073709551613, in digits
+only. It ends with a newline, or with a carriage return and a newline. Numbers are
+printed in ascending order, like sort -n | uniq -c, or by count with --top.
 
 Exit status: 0 done; 1 a read or a write failed; 2 a line is not such a number;
 3 bad usage; 4 out of memory; 5 more different numbers than there is room for.
 
-Example: printf '3\\n7\\n3\\n' | nb_tally --top 1
-      2 3";
+Example: printf 'b\\na\\nb\\n' | nb_tally --top 1
+      2 b";
 
 /// The command line.
 pub(crate) const LINE: CommandLine = CommandLine {
     name: "nb_tally",
-    about: "Counts how often each number occurs in standard input, like sort -n | uniq -c",
+    about: "Counts how often each line occurs in standard input, like sort | uniq -c",
     more: Some(MORE),
     arguments: &[
         Argument {
             form: Form::Number(WORKERS, "N"),
             default: Some("4"),
-            help: "How many threads count; 1 to 8",
+            help: "How many threads hash lines, or count numbers; 1 to 8",
+        },
+        Argument {
+            form: Form::Flag("--numbers"),
+            default: None,
+            help: "Count numbers alone, and print them in ascending order",
+        },
+        Argument {
+            form: Form::Text(BY, "ORDER"),
+            default: None,
+            help: "Print lines in this order: count, line or first",
         },
         Argument {
             form: Form::Number(TOP, "K"),
             default: None,
-            help: "Print only the K most frequent numbers, the most frequent first; 1 to 4294967295",
+            help: "Print only K, the most frequent first unless --by says how; 1 to 4294967295",
         },
         Argument {
             form: Form::Number(KEYS, "N"),
             default: Some("524288"),
-            help: "Make room for at least N different numbers; 1 to 268435456",
+            help: "Make room for N different lines at first, or for at least N different numbers in all; 1 to 268435456",
+        },
+        Argument {
+            form: Form::Number(SEED, "N"),
+            default: None,
+            help: "Hash lines by the key N, and not by one from the machine's randomness; 0 to 18446744073709551615",
+        },
+        Argument {
+            form: Form::Number(BITS, "N"),
+            default: Some("64"),
+            help: "Use N bits of a line's hash; with few of them many lines share one, for tests; 0 to 64",
         },
     ],
 };
 
-/// The options that the command line gives.
-pub(crate) fn options_of(alloc: Global, given: &Given) -> Result<Options, WordsFault> {
-    Ok(Options {
-        top: TOP.find(alloc, given)?,
-        workers: WORKERS.find(alloc, given)?.unwrap_or(1) as usize,
-        keys: KEYS.find(alloc, given)?.unwrap_or(1) as usize,
-    })
+/// The task that the command line gives.
+pub(crate) fn task_of(alloc: Global, given: &Given) -> Result<Task, WordsFault> {
+    let workers = WORKERS.find(alloc, given)?.unwrap_or(1) as usize;
+    let keys = KEYS.find(alloc, given)?.unwrap_or(1) as usize;
+    let top = TOP.find(alloc, given)?;
+    if given.is_set("--numbers") {
+        return numbers_of(alloc, given, Options { workers, top, keys });
+    }
+    Ok(Task::Lines(LineOptions {
+        workers,
+        room: keys,
+        seed: SEED.find(alloc, given)?,
+        bits: BITS.find(alloc, given)?.unwrap_or(64) as u32,
+        order: order_of(alloc, given, top)?,
+        top,
+    }))
+}
+
+/// To count numbers, whose order isn't asked for.
+fn numbers_of(alloc: Global, given: &Given, options: Options) -> Result<Task, WordsFault> {
+    match given.text(BY) {
+        Some(order) => Err(wrong_word(alloc, BY, order, "not with --numbers")),
+        None => Ok(Task::Numbers(options)),
+    }
+}
+
+/// The order that is asked for: by count where only the first ones are, and else by line.
+fn order_of(alloc: Global, given: &Given, top: Option<u64>) -> Result<Order, WordsFault> {
+    match given.text(BY) {
+        Some("count") => Ok(Order::Count),
+        Some("line") => Ok(Order::Line),
+        Some("first") => Ok(Order::First),
+        Some(order) => Err(wrong_word(alloc, BY, order, "neither count, line nor first")),
+        None if top.is_some() => Ok(Order::Count),
+        None => Ok(Order::Line),
+    }
 }

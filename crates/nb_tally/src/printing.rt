@@ -1,7 +1,9 @@
 //! Printing, in the form of `uniq -c`.
 
 use crate::counting::Count;
+use crate::options::Order;
 use nb_lines::ProgramFault;
+use nb_texts::Row;
 use std::alloc::Global;
 use std::cmp::Reverse;
 use std::io;
@@ -38,6 +40,43 @@ pub(crate) fn print<W: Write + Drop>(
 fn print_to<W: Write>(writer: &mut W, counts: &[Count]) -> io::Result<()> {
     for Count { number, times } in counts {
         writeln!(writer, "{times:>7} {number}")?;
+    }
+    writer.flush()
+}
+
+/// Puts the rows of lines into an order, and leaves as many as are asked for.
+pub(crate) fn sort_rows(rows: &mut Vec<Row<'_>>, order: Order, top: Option<u64>) {
+    match order {
+        Order::Count => rows.sort_unstable_by_key(|row| (Reverse(row.times), row.place)),
+        Order::Line => rows.sort_unstable(),
+        Order::First => {}
+    }
+    if let Some(top) = top {
+        rows.truncate(top as usize);
+    }
+}
+
+/// Prints a line for each row.
+pub(crate) fn print_rows<W: Write + Drop>(
+    alloc: Global,
+    writer: W,
+    rows: &[Row<'_>],
+) -> Result<(), ProgramFault> {
+    let Ok(mut writer) = BufWriter::new(alloc, writer) else {
+        return Err(ProgramFault::OutOfMemory);
+    };
+    match print_rows_to(&mut writer, rows) {
+        Ok(()) => Ok(()),
+        Err(_) => Err(ProgramFault::Write),
+    }
+}
+
+/// The same, to a writer that may hold back what it is given.
+fn print_rows_to<W: Write>(writer: &mut W, rows: &[Row<'_>]) -> io::Result<()> {
+    for Row { line, times, .. } in rows {
+        write!(writer, "{times:>7} ")?;
+        writer.write_all(line)?;
+        writer.write_all(b"\n")?;
     }
     writer.flush()
 }

@@ -1,11 +1,15 @@
 //! The program: its words, what it reads and what it prints.
 
 use crate::counting::tally;
-use crate::options::{LINE, options_of};
-use crate::printing::{print, sort};
+use crate::lines_counted::{Plan, tally_lines};
+use crate::options::{LINE, LineOptions, Options, Task, task_of};
+use crate::printing::{print, print_rows, sort, sort_rows};
 use nb_lines::{ProgramFault, ProgressMeter};
+use nb_texts::{Hashing, LineTally};
+use std::alloc::Global;
 use std::io;
 use std::io::Read;
+use std::random::RandomSource;
 use std::rt::Env;
 use std::sync::Wait;
 use std::thread::Threads;
@@ -13,10 +17,78 @@ use std::thread::Threads;
 /// Serves a process: does what its words ask for.
 pub(crate) fn serve<R, I>(rt: &R, reader: I, progress: ProgressMeter) -> Result<(), ProgramFault>
 where
-    R: Env + Threads + Sync + Wait + Print + Eprint + AllocGlobal,
+    R: Env + Threads + Sync + Wait + Print + Eprint + AllocGlobal + RandomSource,
     I: Read + Send + Drop,
 {
-    let options = options_of(rt.alloc(), &LINE.given(rt)?)?;
+    match task_of(rt.alloc(), &LINE.given(rt)?)? {
+        Task::Lines(options) => lines(rt, options, reader, progress),
+        Task::Numbers(options) => numbers(rt, options, reader, progress),
+    }
+}
+
+/// Counts lines.
+fn lines<R, I>(
+    rt: &R,
+    options: LineOptions,
+    reader: I,
+    progress: ProgressMeter,
+) -> Result<(), ProgramFault>
+where
+    R: Threads + Sync + Wait + Print + Eprint + AllocGlobal + RandomSource,
+    I: Read + Drop,
+{
+    let plan = Plan {
+        hashing: Hashing::new(seed_of(rt, options)?, options.bits),
+        workers: options.workers,
+        room: options.room,
+        progress,
+    };
+    let mut reader = reader;
+    let counted = tally_lines(rt, rt.alloc(), plan, &mut reader);
+    progress.end(rt);
+    print_tally(rt.alloc(), io::writer(rt), &counted?, options)
+}
+
+/// Prints the lines that are asked for, in the order that is asked for.
+fn print_tally<W: io::Write + Drop>(
+    alloc: Global,
+    writer: W,
+    tally: &LineTally,
+    options: LineOptions,
+) -> Result<(), ProgramFault> {
+    let mut rows = tally.rows(alloc)?;
+    sort_rows(&mut rows, options.order, options.top);
+    print_rows(alloc, writer, rows.as_slice())
+}
+
+/// The key of the hash function: the one that is given, or else one from the machine's randomness.
+fn seed_of<R: RandomSource>(rt: &R, options: LineOptions) -> Result<u64, ProgramFault> {
+    match options.seed {
+        Some(seed) => Ok(seed),
+        None => random(rt),
+    }
+}
+
+/// A number from the machine's randomness.
+fn random<R: RandomSource>(rt: &R) -> Result<u64, ProgramFault> {
+    let mut bytes = [0; 8];
+    match rt.fill_bytes(&mut bytes) {
+        Ok(()) => Ok(u64::from_le_bytes(bytes)),
+        Err(_) => Err(ProgramFault::Read),
+    }
+}
+
+/// Counts numbers.
+fn numbers<R, I>(
+    rt: &R,
+    options: Options,
+    reader: I,
+    progress: ProgressMeter,
+) -> Result<(), ProgramFault>
+where
+    R: Threads + Sync + Wait + Print + Eprint + AllocGlobal,
+    I: Read + Send + Drop,
+{
     let mut counts = tally(rt, rt.alloc(), &options, reader, progress)?;
     sort(&mut counts, options.top);
     print(rt.alloc(), io::writer(rt), counts.as_slice())

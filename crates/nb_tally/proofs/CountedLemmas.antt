@@ -1,0 +1,80 @@
+-- The lines of an input are counted block after block.
+use Rattle.std.proofs.Common.{◌≡◌, ◌∙◌, ℕ, Bool, false, List, [], ◌++◌, None, Option, Some, IfSome, ap, append-nil, append_assoc, map, refl, subst, sym}
+use Rattle.nb_texts.specs.Lines.{lines_in}
+use Rattle.nb_texts.specs.Sources.{HasCut}
+use Rattle.nb_texts.specs.Tallies.{IsTally, times}
+
+-- These lines were counted, and those of the input are these and the lines of what is left.
+pub record IsUnderway (known now : Option (List ℕ)) (texts : List (List ℕ)) (counts rest : List ℕ) :
+    Type 0 where
+  pub lines : List (List ℕ)
+  pub tally : IsTally lines texts counts
+  pub left :
+      IfSome known (λ input. (left : List ℕ) × (now ≡ Some left)
+      × (lines_in input ≡ lines ++ lines_in (rest ++ left)))
+
+pub underway-begun :
+    (known : Option (List ℕ)) (texts : List (List ℕ)) (counts rest : List ℕ) → texts ≡ []
+    → counts ≡ [] → rest ≡ [] → IsUnderway known known texts counts rest
+underway-begun known texts counts rest none zero empty = record {
+  lines = [];
+  tally = record { are = none; told = zero ∙ ap (map (λ line. times line [])) (sym none) };
+  left = of known;
+}
+  where
+    of :
+        (known : Option (List ℕ))
+        → IfSome known (λ input. (left : List ℕ) × (known ≡ Some left)
+        × (lines_in input ≡ [] ++ lines_in (rest ++ left)))
+    of None = tt
+    of (Some input) = (input, refl, ap (λ rest. lines_in (rest ++ input)) (sym empty))
+
+pub underway-more :
+    (known now next : Option (List ℕ)) (texts texts' : List (List ℕ))
+    (counts counts' rest rest' block : List ℕ) (some : Bool)
+    → IsUnderway known now texts counts rest → HasCut some now next rest block rest'
+    → ((lines : List (List ℕ)) → IsTally lines texts counts
+    → IsTally (lines ++ lines_in block) texts' counts')
+    → IsUnderway known next texts' counts' rest'
+underway-more known now next texts texts' counts counts' rest rest' block some under cut counted =
+    record {
+      lines = under.lines ++ lines_in block;
+      tally = counted under.lines under.tally;
+      left = of known under.left;
+    }
+  where
+    of :
+        (known : Option (List ℕ))
+        → IfSome known (λ input. (left : List ℕ) × (now ≡ Some left)
+        × (lines_in input ≡ under.lines ++ lines_in (rest ++ left)))
+        → IfSome known (λ input. (left : List ℕ) × (next ≡ Some left)
+        × (lines_in input ≡ (under.lines ++ lines_in block) ++ lines_in (rest' ++ left)))
+    of None left = tt
+    of (Some input) (left, is, same) =
+        let here = subst (λ now. IfSome now (λ input. (left : List ℕ) × (next ≡ Some left)
+        × (lines_in (rest ++ input) ≡ lines_in block ++ lines_in (rest' ++ left)))) is cut.cut in (
+          here.0,
+          here.1,
+          same ∙ ap (λ lines. under.lines ++ lines) here.2
+              ∙ sym (append_assoc under.lines (lines_in block) (lines_in (rest' ++ here.0))),
+        )
+
+-- nothing is left
+pub underway-ended :
+    (known now next : Option (List ℕ)) (texts : List (List ℕ)) (counts rest rest' block : List ℕ)
+    (some : Bool) → IsUnderway known now texts counts rest → HasCut some now next rest block rest'
+    → some ≡ false → IfSome known (λ input. IsTally (lines_in input) texts counts)
+underway-ended known now next texts counts rest rest' block some under cut ended = of known under.left
+  where
+    of :
+        (known : Option (List ℕ))
+        → IfSome known (λ input. (left : List ℕ) × (now ≡ Some left)
+        × (lines_in input ≡ under.lines ++ lines_in (rest ++ left)))
+        → IfSome known (λ input. IsTally (lines_in input) texts counts)
+    of None left = tt
+    of (Some input) (left, is, same) =
+        let none : rest ++ left ≡ []
+        = subst (λ now. IfSome now (λ input. rest ++ input ≡ [])) is (cut.ended ended) in
+        let all : under.lines ≡ lines_in input
+        = sym (same ∙ ap (λ bytes. under.lines ++ lines_in bytes) none ∙ append-nil under.lines) in
+        subst (λ lines. IsTally lines texts counts) all under.tally

@@ -1,0 +1,241 @@
+-- How often each line comes, counted by the places of lines.
+use Rattle.std.proofs.Common.{◌≡◌, ◌≢◌, ◌∙◌, ◌+◌, ◌≤◌, ◌<◌, ◌==◌, ℕ, zero, suc, Bool, true, false, cond, if◌then◌else◌, List, [], ◌∷◌, ◌++◌, All, None, Option, Some, ap, ap₂, arith, get_or, inl, inr, ◌⊎◌, length, map, refl, subst, sym, zero-add}
+use Rattle.std.specs.Prelude.{count_by, slice_get, slice_index}
+use Rattle.std.proofs.lemmas.Bool.{cases_Bool, cases_lt, eq-eqb, eqb-true, ne_eqb, or_left, or_right}
+use Rattle.std.proofs.lemmas.List.{get_or_default, get_or_past, length-map, same_lists}
+use Rattle.std.proofs.lemmas.List.Elements.{All-cons, All-head, All-nil, All-tail, All-weaker}
+use Rattle.std.proofs.lemmas.List.Sums.{sum_by-cons}
+use Rattle.std.proofs.lemmas.Option.{slice_get_within}
+use Rattle.std.proofs.lemmas.Slice.Eq.{bytes_eq-Decides}
+use Rattle.core.specs.Str.{bytes_eq}
+use Rattle.nb_texts.proofs.FindingLemmas.{among, get-left, get-push, not-among}
+use Rattle.nb_texts.proofs.LinesLemmas.{with-append, with-grows}
+use Rattle.nb_texts.specs.Lines.{distinct, is_among, lines_in, with_new_lines}
+use Rattle.nb_texts.specs.Tallies.{IsTally, times}
+
+-- ---- no line is there twice
+
+pub IsOnce : List (List ℕ) → Type 0
+IsOnce texts =
+    (i j : ℕ) (text : List ℕ) → slice_get texts i ≡ Some text → slice_get texts j ≡ Some text
+    → i ≡ j
+
+once-push :
+    (texts : List (List ℕ)) (line : List ℕ) → IsOnce texts → is_among line texts ≡ false
+    → IsOnce (texts ++ line ∷ [])
+unfolding IsOnce
+once-push texts line once new i j text at at' = elim (get-push texts line i text at) [
+  | inl here ↦ elim (get-push texts line j text at') [
+    | inl there ↦ once i j text here there
+    | inr last ↦
+        let is : is_among line texts ≡ true = among texts line i (here ∙ ap Some last.1) in
+        absurd (let wrong : true ≡ false = sym is ∙ new in cc)
+  ]
+  | inr last ↦ elim (get-push texts line j text at') [
+    | inl there ↦
+        let is : is_among line texts ≡ true = among texts line j (there ∙ ap Some last.1) in
+        absurd (let wrong : true ≡ false = sym is ∙ new in cc)
+    | inr last' ↦ last.0 ∙ sym last'.0
+  ]
+]
+
+once-with : (known lines : List (List ℕ)) → IsOnce known → IsOnce (with_new_lines known lines)
+once-with known [] once = once
+once-with known (line ∷ lines) once = elim (cases_Bool (is_among line known)) [
+  | inl old ↦ rw old (once-with known lines once)
+  | inr new ↦ rw new (once-with (known ++ line ∷ []) lines (once-push known line once new))
+]
+
+once-none : IsOnce []
+unfolding IsOnce
+once-none i j text at at' = absurd cc
+
+-- ---- each line is there
+
+among-left :
+    (line : List ℕ) (texts more : List (List ℕ)) → is_among line texts ≡ true
+    → is_among line (texts ++ more) ≡ true
+among-left line [] more is = absurd cc
+among-left line (text ∷ texts) more is = elim (cases_Bool (bytes_eq line text)) [
+  | inl same ↦ or_left (bytes_eq line text) (is_among line (texts ++ more)) same
+  | inr other ↦
+      let rest : is_among line texts ≡ true = rw other at is in
+      or_right (bytes_eq line text) (is_among line (texts ++ more)) (among-left line texts more rest)
+]
+
+among-last : (line : List ℕ) (texts : List (List ℕ)) → is_among line (texts ++ line ∷ []) ≡ true
+among-last line [] =
+    or_left (bytes_eq line line) false ((bytes_eq-Decides line line).1 refl)
+among-last line (text ∷ texts) =
+    or_right (bytes_eq line text) (is_among line (texts ++ line ∷ [])) (among-last line texts)
+
+among-with :
+    (line : List ℕ) (known lines : List (List ℕ)) → is_among line known ≡ true
+    → is_among line (with_new_lines known lines) ≡ true
+among-with line known lines is =
+    let rest = with-grows known lines in
+    subst (λ texts. is_among line texts ≡ true) (sym rest.1) (among-left line known rest.0 is)
+
+all-with :
+    (known lines : List (List ℕ))
+    → All (λ line. is_among line (with_new_lines known lines) ≡ true) lines
+all-with known [] = All-nil (λ line. is_among line known ≡ true)
+all-with known (line ∷ lines) = elim (cases_Bool (is_among line known)) [
+  | inl old ↦
+      rw old (All-cons (λ line. is_among line (with_new_lines known lines) ≡ true) line lines
+      (among-with line known lines old) (all-with known lines))
+  | inr new ↦
+      let known' = known ++ line ∷ [] in
+      rw new (All-cons (λ line. is_among line (with_new_lines known' lines) ≡ true) line lines
+      (among-with line known' lines (among-last line known)) (all-with known' lines))
+]
+
+-- a line that isn't there never came
+never :
+    (line : List ℕ) (texts lines : List (List ℕ)) → is_among line texts ≡ false
+    → All (λ line. is_among line texts ≡ true) lines → times line lines ≡ 0
+never line texts [] out all = refl
+never line texts (other ∷ lines) out all = elim (cases_Bool (bytes_eq line other)) [
+  | inl same ↦
+      let is : line ≡ other = (bytes_eq-Decides line other).0 same in
+      let there : is_among line texts ≡ true
+      = ap (λ line. is_among line texts) is
+      ∙ All-head (λ line. is_among line texts ≡ true) other lines all in
+      absurd (let wrong : true ≡ false = sym there ∙ out in cc)
+  | inr differs ↦
+      let rest = never line texts lines out
+      (All-tail (λ line. is_among line texts ≡ true) other lines all) in
+      let none = ap {B = ℕ} (λ b. cond b 1 0) differs in
+      omega (arith, rest, none, sum_by-cons (λ other. cond (bytes_eq line other) 1 0) other lines)
+]
+
+times-append :
+    (line : List ℕ) (lines more : List (List ℕ))
+    → times line (lines ++ more) ≡ times line lines + times line more
+times-append line [] more = sym (zero-add (times line more))
+times-append line (other ∷ lines) more =
+    let f : List ℕ → ℕ = λ other. cond (bytes_eq line other) 1 0 in
+    omega (
+      arith,
+      sum_by-cons f other (lines ++ more),
+      sum_by-cons f other lines,
+      times-append line lines more,
+    )
+
+-- ---- places and lines
+
+-- a line comes as often as its place does
+places-times :
+    (texts : List (List ℕ)) (places : List ℕ) (lines : List (List ℕ)) (q : ℕ) (text : List ℕ)
+    → IsOnce texts → slice_get texts q ≡ Some text → map (slice_get texts) places ≡ map Some lines
+    → count_by (λ place. place == q) places ≡ times text lines
+unfolding IsOnce
+places-times texts [] [] q text once at are = refl
+places-times texts [] (line ∷ lines) q text once at are = absurd cc
+places-times texts (place ∷ places) [] q text once at are = absurd cc
+places-times texts (place ∷ places) (line ∷ lines) q text once at are =
+    let here : slice_get texts place ≡ Some line = cc in
+    let rest : map (slice_get texts) places ≡ map Some lines = cc in
+    let same : (place == q) ≡ bytes_eq text line = elim (cases_Bool (place == q)) [
+      | inl is ↦
+          let this : place ≡ q = eqb-true place q is in
+          let both : Some text ≡ Some line = sym at ∙ ap (slice_get texts) (sym this) ∙ here in
+          let eq : text ≡ line = cc in
+          is ∙ sym ((bytes_eq-Decides text line).1 eq)
+      | inr other ↦ elim (cases_Bool (bytes_eq text line)) [
+        | inl eq ↦
+            let is : text ≡ line = (bytes_eq-Decides text line).0 eq in
+            let this : place ≡ q = once place q line here (at ∙ ap Some is) in
+            absurd (let yes : true ≡ false = sym (eq-eqb place q this) ∙ other in cc)
+        | inr differs ↦ other ∙ sym differs
+      ]
+    ] in
+    let ones = ap {B = ℕ} (λ b. cond b 1 0) same in
+    omega (
+      arith,
+      ones,
+      places-times texts places lines q text once at rest,
+      sum_by-cons (λ place. cond (place == q) 1 0) place places,
+      sum_by-cons (λ line. cond (bytes_eq text line) 1 0) line lines,
+    )
+
+-- ---- a block is counted
+
+get-there : (texts : List (List ℕ)) (q : ℕ) (d : List ℕ) → q < length texts
+    → slice_get texts q ≡ Some (get_or texts q d)
+get-there [] q d less = absurd (omega (arith, less))
+get-there (text ∷ texts) zero d less = refl
+get-there (text ∷ texts) (suc q) d less = get-there texts q d (omega (arith, less))
+
+index-map : (f : List ℕ → ℕ) (texts : List (List ℕ)) (q : ℕ) (text : List ℕ)
+    → slice_get texts q ≡ Some text → slice_index (map f texts) q ≡ f text
+index-map f [] q text at = absurd cc
+index-map f (t ∷ texts) zero text at = let same : t ≡ text = cc in ap f same
+index-map f (t ∷ texts) (suc q) text at = index-map f texts q text at
+
+module _
+    (lines texts block : List (List ℕ)) (texts' : List (List ℕ)) (counts counts' places : List ℕ)
+    (tally : IsTally lines texts counts) (entered : texts' ≡ with_new_lines texts block)
+    (are : map (slice_get texts') places ≡ map Some block)
+    (many : length counts' ≡ length texts')
+    (counted :
+    (q : ℕ) → q < length texts'
+    → slice_index counts' q ≡ slice_index counts q + count_by (λ place. place == q) places)
+  where
+    all-once : IsOnce texts'
+    all-once =
+        subst IsOnce (sym (entered ∙ ap (λ texts. with_new_lines texts block) tally.are
+        ∙ sym (with-append [] lines block))) (once-with [] (lines ++ block) once-none)
+
+    -- what was counted before
+    before : (q : ℕ) (text : List ℕ) → slice_get texts' q ≡ Some text
+        → slice_index counts q ≡ times text lines
+    unfolding IsOnce
+    before q text at =
+        let grown = with-grows texts block in
+        elim (cases_lt q (length texts)) [
+          | inl less ↦
+              let here = get-there texts q text less in
+              let there : slice_get texts' q ≡ Some (get_or texts q text)
+              = ap (λ texts. slice_get texts q) (entered ∙ grown.1)
+              ∙ get-left texts grown.0 q (get_or texts q text) here in
+              let both : Some text ≡ Some (get_or texts q text) = sym at ∙ there in
+              let same : get_or texts q text ≡ text = cc in
+              ap (λ counts. slice_index counts q) tally.told
+              ∙ index-map (λ line. times line lines) texts q text (here ∙ ap Some same)
+          | inr past ↦
+              let none : slice_index counts q ≡ 0
+              = ap (λ counts. slice_index counts q) tally.told
+              ∙ get_or_past (map (λ line. times line lines) texts) q 0
+              (omega (arith, past, length-map texts (λ line. times line lines))) in
+              let out : is_among text texts ≡ false
+              = not-among texts text (λ i there.
+              let same : i ≡ q = all-once i q text (ap (λ texts. slice_get texts i) (entered ∙ grown.1)
+              ∙ get-left texts grown.0 i text there) at in
+              let within = slice_get_within texts i text there in
+              omega (arith, same, within, past)) in
+              none ∙ sym (never text texts lines out
+              (subst (λ texts. All (λ line. is_among line texts ≡ true) lines) (sym tally.are)
+              (all-with [] lines)))
+        ]
+
+    pub tally-more : IsTally (lines ++ block) texts' counts'
+    tally-more = record {
+      are = entered ∙ ap (λ texts. with_new_lines texts block) tally.are
+          ∙ sym (with-append [] lines block);
+      told = same_lists counts' (map (λ line. times line (lines ++ block)) texts')
+          (many ∙ sym (length-map texts' (λ line. times line (lines ++ block))))
+          (λ q d less.
+          let q-less : q < length texts' = omega (arith, less, many) in
+          let text = get_or texts' q [] in
+          let at = get-there texts' q [] q-less in
+          let here : slice_index counts' q ≡ times text (lines ++ block)
+          = counted q q-less
+          ∙ ap₂ (λ m n. m + n) (before q text at)
+          (places-times texts' places block q text all-once at are)
+          ∙ sym (times-append text lines block) in
+          get_or_default counts' q d 0 less ∙ here
+          ∙ sym (index-map (λ line. times line (lines ++ block)) texts' q text at)
+          ∙ sym (get_or_default (map (λ line. times line (lines ++ block)) texts') q d 0
+          (omega (arith, q-less, length-map texts' (λ line. times line (lines ++ block))))));
+    }

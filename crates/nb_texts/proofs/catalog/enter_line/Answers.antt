@@ -1,0 +1,98 @@
+use Rattle.std.proofs.Common.{◌≡◌, ◌≢◌, ◌∙◌, [], ◌∷◌, ◌++◌, None, Option, Some, ap, append-nil, length, refl, subst, subst₂, sym, ℕ}
+use Rattle.std.specs.Prelude.{slice_get}
+use Rattle.nb_map.specs.Logs.{HasFound}
+use Rattle.nb_map.specs.NamedCalls.{put_if_absent_of}
+use Rattle.nb_texts.proofs.FindingLemmas.{entered-found, entered-new, get-last, tried-more, tried-none}
+use Rattle.nb_texts.specs.Entering.{HasEntered}
+use Rattle.nb_texts.specs.Hashes.{key_after, key_for}
+use Rattle.nb_texts.proofs.catalog.enter_line.Goals as goal
+
+pub loop-tries-init : goal.loop-tries-init
+loop-tries-init g c = (
+  record { map = refl; reserve = refl },
+  refl,
+  tried-none (key_for c.args.hashing c.args.line.now) c.args.handle.now.map c.args.handle.now.seat
+      c.args.texts.now c.args.line.now c.known.ensures.own,
+)
+
+pub returns-in-None-clause-entered : goal.returns-in-None-clause-entered
+returns-in-None-clause-entered g c =
+    let now = c.loop-tries in
+    let keys = key_for c.args.hashing in
+    let texts = c.args.texts.now in
+    let line = c.args.line.now in
+    let P : ℕ → Option ℕ → Type 0 = λ key number. HasFound (put_if_absent_of key c.in_ok-number.number)
+    now.handle.seat c.put.new.handle.seat number in
+    let found : P (keys line now.tries) None
+    = subst₂ P (c.key_after.ensures ∙ ap (λ hash. key_after hash now.tries) c.requires) c.in-None.is
+    c.in_ok-put.ensures.found in
+    let last : c.in_ok-number.number ≡ length texts = c.in_ok-number.ensures ∙ c.len-place.ensures in
+    let pushed : texts ++ line ∷ [] ≡ c.push.new.self
+    = ap (λ texts. texts ++ line ∷ []) (sym now.invariant.1) ∙ sym c.in_ok-push-in-None.ensures in
+    subst (λ texts'. HasEntered keys c.args.handle.now.seat c.put.new.handle.seat texts texts' (line ∷ []))
+    pushed (entered-new keys c.args.handle.now.seat now.handle.seat c.put.new.handle.seat texts line
+    now.tries c.in_ok-number.number now.invariant.2 found last)
+
+pub returns-in-None-clause-placed : goal.returns-in-None-clause-placed
+returns-in-None-clause-placed g c =
+    let texts = c.args.texts.now in
+    let line = c.args.line.now in
+    ap (λ texts. slice_get texts c.len-place.result) (c.in_ok-push-in-None.ensures
+    ∙ ap (λ texts. texts ++ line ∷ []) c.loop-tries.invariant.1)
+    ∙ ap (slice_get (texts ++ line ∷ [])) c.len-place.ensures ∙ get-last texts line
+
+pub returns-then-is_at-clause-entered : goal.returns-then-is_at-clause-entered
+returns-then-is_at-clause-entered g c =
+    let now = c.loop-tries in
+    let keys = key_for c.args.hashing in
+    let texts = c.args.texts.now in
+    let line = c.args.line.now in
+    let P : ℕ → Option ℕ → Type 0 = λ key number. HasFound (put_if_absent_of key c.in_ok-number.number)
+    now.handle.seat c.put.new.handle.seat number in
+    let found : P (keys line now.tries) (Some c.get-found.result)
+    = subst₂ P (c.key_after.ensures ∙ ap (λ hash. key_after hash now.tries) c.requires)
+    (c.in-Some.is ∙ ap Some (sym c.get-found.ensures.number)) c.in_ok-put.ensures.found in
+    let at : slice_get texts c.get-found.result ≡ Some line
+    = ap (λ texts. slice_get texts c.get-found.result) (sym now.invariant.1)
+    ∙ c.is_at.ensures.0 c.if-is_at.true in
+    subst (λ texts'. HasEntered keys c.args.handle.now.seat c.put.new.handle.seat texts texts' (line ∷ []))
+    (sym now.invariant.1) (entered-found keys c.args.handle.now.seat now.handle.seat
+    c.put.new.handle.seat texts line now.tries c.in_ok-number.number now.invariant.2
+    c.get-found.result found at)
+
+pub loop-tries-preserved : goal.loop-tries-preserved
+loop-tries-preserved g c =
+    let now = c.loop-tries in
+    let keys = key_for c.args.hashing in
+    let texts = c.args.texts.now in
+    let line = c.args.line.now in
+    let P : ℕ → Option ℕ → Type 0 = λ key number. HasFound (put_if_absent_of key c.in_ok-number.number)
+    now.handle.seat c.put.new.handle.seat number in
+    let found : P (keys line now.tries) (Some c.get-found.result)
+    = subst₂ P (c.key_after.ensures ∙ ap (λ hash. key_after hash now.tries) c.requires)
+    (c.in-Some.is ∙ ap Some (sym c.get-found.ensures.number)) c.in_ok-put.ensures.found in
+    let other : slice_get texts c.get-found.result ≢ Some line
+    = λ at.
+    let yes = c.is_at.ensures.1 (ap (λ texts. slice_get texts c.get-found.result) now.invariant.1 ∙ at) in
+    let not_so = c.if-is_at.false in
+    cc in
+    let rest = c.in_ok-put.ensures.rest in (
+      record {
+        map = rest.map ∙ now.invariant.0.map;
+        reserve = rest.reserve ∙ now.invariant.0.reserve;
+      },
+      now.invariant.1,
+      tried-more (keys line) c.args.handle.now.seat now.handle.seat c.put.new.handle.seat texts line
+          now.tries c.in_ok-number.number now.invariant.2 c.get-found.result found other,
+    )
+
+pub returns-in-None-clause-grown : goal.returns-in-None-clause-grown
+returns-in-None-clause-grown g c = (
+  c.args.line.now ∷ [],
+  c.in_ok-push-in-None.ensures
+      ∙ ap (λ texts. texts ++ c.args.line.now ∷ []) c.loop-tries.invariant.1,
+)
+
+pub returns-then-is_at-clause-grown : goal.returns-then-is_at-clause-grown
+returns-then-is_at-clause-grown g c =
+    ([], c.loop-tries.invariant.1 ∙ sym (append-nil c.args.texts.now))

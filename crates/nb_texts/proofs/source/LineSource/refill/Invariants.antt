@@ -1,0 +1,9 @@
+use Rattle.std.proofs.Common.{◌≡◌, []}
+use Rattle.nb_texts.proofs.SourceLemmas.{HasRead}
+use Rattle.nb_texts.proofs.source.LineSource.refill.Given as goal
+
+abbrev pub invariant-loop : goal.invariant-loop
+invariant-loop g l =
+    (l.self.rest.items ≡ [])
+    × HasRead (g.I.Read.remaining l.fn.reader) (g.I.Read.remaining l.reader) l.fn.self.rest.items
+    l.self.block.items

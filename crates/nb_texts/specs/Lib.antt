@@ -1,0 +1,8 @@
+-- The definitions that the contracts cite.
+pub mod Catalogs
+pub mod Entering
+pub mod Hashes
+pub mod Lines
+pub mod Places
+pub mod Sources
+pub mod Tallies

@@ -1,0 +1,14 @@
+-- How often each line comes.
+use Rattle.std.specs.Prelude.{◌≡◌, ℕ, List, count_by, map}
+use Rattle.core.specs.Str.{bytes_eq}
+use Rattle.nb_texts.specs.Lines.{distinct}
+
+-- how often a line is among these
+abbrev pub times : List ℕ → List (List ℕ) → ℕ
+times line lines = count_by (bytes_eq line) lines
+
+-- these are the distinct lines, in the order of their first coming, and the counts tell how often
+-- each comes
+pub record IsTally (lines known : List (List ℕ)) (counts : List ℕ) : Type 0 where
+  pub are : known ≡ distinct lines
+  pub told : counts ≡ map (λ line. times line lines) known

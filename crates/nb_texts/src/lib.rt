@@ -1,0 +1,22 @@
+//! Lines of text, each kept once: what programs share that count or filter the lines of a stream.
+//!
+//! A [`Catalog`] has the distinct lines of what was entered, in the order of their first coming. A
+//! line is found by its keyed hash in a map, and is compared byte for byte, so lines of one hash are
+//! kept apart. The map is made anew, larger, before a block of lines might not find room. A
+//! [`LineSource`] reads an input in blocks of whole lines.
+#![tactic(auto)]
+
+mod catalog;
+mod hashed;
+mod hashing;
+mod lines;
+mod source;
+mod tally;
+mod texts;
+
+pub use catalog::Catalog;
+pub use hashing::Hashing;
+pub use lines::split_line;
+pub use source::LineSource;
+pub use tally::{LineTally, Row};
+pub use texts::Texts;

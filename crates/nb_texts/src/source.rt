@@ -1,0 +1,128 @@
+//! An input, read in blocks of whole lines.
+ghost use Rattle.std.specs.Io.KnownBytes.{Consumes, IsAtEnd, Keeps};
+ghost use Rattle.std.specs.Prelude.{◌≡◌, ◌<◌, ◌≤◌, [], IfOk, MatchOption, length, take};
+ghost use Rattle.nb_texts.specs.Sources.{HasCut, HasTakenIn};
+
+use memchr::{memchr_iter, memrchr};
+use nb_lines::ProgramFault;
+use std::alloc::Global;
+use std::io::{ErrorKind, Read};
+
+/// How many bytes are asked for at once.
+const AHEAD: usize = 1 << 20;
+
+/// What a read came to.
+#[derive(Clone, Copy)]
+pub(crate) enum Turn {
+    /// The block ends with a newline.
+    Cut,
+    /// The input has ended.
+    Ended,
+    /// No newline came.
+    More,
+}
+
+/// What was read of an input: a block of whole lines, and what came behind it.
+#[derive(Drop)]
+pub struct LineSource {
+    block: Vec<u8>,
+    rest: Vec<u8>,
+    room: Vec<u8>,
+}
+
+impl LineSource {
+    /// Nothing was read.
+    pub fn new(alloc: Global) -> Result<LineSource, ProgramFault>
+        ensures { IfOk result (λ source. source.rest.items ≡ []) }
+    {
+        Ok(LineSource {
+            block: Vec::new(alloc),
+            rest: Vec::new(alloc),
+            room: vec![in alloc; 0_u8; AHEAD]?,
+        })
+    }
+
+    /// The lines of the block.
+    pub fn block(&self) -> &[u8]
+        ensures { result.now ≡ self.now.block.items }
+    {
+        self.block.as_slice()
+    }
+
+    /// How many newlines the block has. Only the last line of an input may have none.
+    pub fn newlines(&self) -> usize {
+        memchr_iter(b'\n', self.block.as_slice()).count()
+    }
+
+    /// Reads the next block: whole lines that are there, one at least, for which it waits. It answers
+    /// whether there was one.
+    pub fn refill<I: Read>(&mut self, reader: &mut I) -> Result<bool, ProgramFault>
+        ensures { IfOk result (λ some. HasCut some (I.remaining reader.old) (I.remaining reader.new)
+            self.old.rest.items self.new.block.items self.new.rest.items) }
+    {
+        self.block.clear();
+        self.block.extend_from_slice(self.rest.as_slice())?;
+        self.rest.clear();
+        for _ in 0..u64::MAX {
+            match read_on(
+                reader,
+                self.room.as_mut_slice(),
+                &mut self.block,
+                &mut self.rest,
+            )? {
+                Turn::Cut => return Ok(true),
+                Turn::Ended => return Ok(!self.block.is_empty()),
+                Turn::More => {}
+            }
+        }
+        Err(ProgramFault::Read)
+    }
+}
+
+/// Reads what is there behind a block, up to the last newline, and what comes behind that as the rest.
+fn read_on<I: Read>(
+    reader: &mut I,
+    room: &mut [u8],
+    block: &mut Vec<u8>,
+    rest: &mut Vec<u8>,
+) -> Result<Turn, ProgramFault>
+    requires { rest.old.items ≡ [] }
+    ensures { IfOk result (HasTakenIn (I.remaining reader.old) (I.remaining reader.new)
+        block.old.items block.new.items rest.new.items) }
+{
+    if room.is_empty() {
+        return Err(ProgramFault::Read);
+    }
+    let Some(count) = read_some(reader, room)? else {
+        return Ok(Turn::More);
+    };
+    let read = &room[..count];
+    if read.is_empty() {
+        return Ok(Turn::Ended);
+    }
+    let Some(last) = memrchr(b'\n', read) else {
+        block.extend_from_slice(read)?;
+        return Ok(Turn::More);
+    };
+    block.extend_from_slice(&read[..last + 1])?;
+    rest.extend_from_slice(&read[last + 1..])?;
+    Ok(Turn::Cut)
+}
+
+/// Reads what is there, and answers how many bytes that is, or nothing where a signal came first.
+fn read_some<I: Read>(reader: &mut I, room: &mut [u8]) -> Result<Option<usize>, ProgramFault>
+    ensures read { IfOk result (λ some. MatchOption some
+        (Keeps (I.remaining reader.old) (I.remaining reader.new))
+        (λ count. (count ≤ length room.new)
+        × Consumes (I.remaining reader.old) (I.remaining reader.new) (take count room.new)
+        × (count ≡ 0 → 0 < length room.new → IsAtEnd (I.remaining reader.new)))) }
+{
+    match reader.read(room) {
+        Ok(count) => Ok(Some(count)),
+        Err(fault) => match fault.kind() {
+            ErrorKind::Interrupted => Ok(None),
+            ErrorKind::OutOfMemory => Err(ProgramFault::OutOfMemory),
+            _ => Err(ProgramFault::Read),
+        },
+    }
+}

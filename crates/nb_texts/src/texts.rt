@@ -1,0 +1,91 @@
+//! Texts one behind another, which only grow.
+ghost use Rattle.std.specs.Prelude.{◌≡◌, ◌↔◌, ◌++◌, ◌∷◌, [], IfOk, IsTrue, OnOk, Some, drop, length, slice_get};
+ghost use Rattle.nb_texts.specs.Lines.{text_of_lines};
+
+use nb_core::OutOfMemory;
+use std::alloc::Global;
+use std::marker::Model;
+
+/// Where a text stands among the bytes.
+#[derive(Clone, Copy)]
+pub(crate) struct Place {
+    pub(crate) start: usize,
+    pub(crate) end: usize,
+}
+
+/// Texts, each with the place at which it was put. A contract sees their list.
+#[derive(Drop)]
+pub struct Texts {
+    bytes: Vec<u8>,
+    places: Vec<Place>,
+}
+
+impl Model for Texts {
+    ghost use Rattle.std.specs.Prelude.{ℕ, List};
+    ghost use Rattle.nb_texts.specs.Places.{AreWithin, texts_at};
+
+    ghost Value = { List (List ℕ) };
+
+    ghost view = { λ texts. texts_at texts.bytes.items texts.places.items };
+
+    ghost invariant = { λ texts. AreWithin texts.bytes.items texts.places.items };
+}
+
+impl Texts {
+    pub fn new(alloc: Global) -> Texts
+        ensures { result ≡ [] }
+    {
+        Texts {
+            bytes: Vec::new(alloc),
+            places: Vec::new(alloc),
+        }
+    }
+
+    /// How many there are.
+    pub fn len(&self) -> usize
+        ensures { result ≡ length self.now }
+    {
+        self.places.len()
+    }
+
+    /// Puts a text behind the others. Where memory is refused, they are as they were.
+    pub fn push(&mut self, text: &[u8]) -> Result<(), OutOfMemory>
+        ensures { OnOk result (self.new ≡ self.old ++ text.now ∷ []) }
+    {
+        let start = self.bytes.len();
+        self.bytes.extend_from_slice(text)?;
+        let end = self.bytes.len();
+        self.places.push(Place { start, end })?;
+        Ok(())
+    }
+
+    /// Whether this text is at a place.
+    pub fn is_at(&self, place: usize, text: &[u8]) -> bool
+        ensures { IsTrue result ↔ (slice_get self.now place ≡ Some text.now) }
+    {
+        if place >= self.places.len() {
+            return false;
+        }
+        let Place { start, end } = self.places[place];
+        &self.bytes[start..end] == text
+    }
+
+    /// The text at a place.
+    pub fn get(&self, place: usize) -> Option<&[u8]> {
+        let Place { start, end } = *self.places.get(place)?;
+        Some(&self.bytes[start..end])
+    }
+
+    /// The text of those from a place on, each with a newline.
+    pub fn text_from(&self, alloc: Global, first: usize) -> Result<Vec<u8>, OutOfMemory>
+        ensures { IfOk result (λ text. text.items ≡ text_of_lines (drop first self.now)) }
+    {
+        let mut text = Vec::new(alloc);
+        for place in first..self.places.len() {
+            let Place { start, end } = self.places[place];
+            text.extend_from_slice(&self.bytes[start..end])?;
+            text.push(b'\n')?;
+        }
+        Ok(text)
+    }
+}
