@@ -131,7 +131,7 @@ renewed e p before after of is =
           (seats_of after) begun.logs,
     )
 
-goes_on :
+pub goes_on :
     (number : ℕ) (first middle last : List Entry) (made made' : List (Call × Reply))
     → HasGoneOnBy number first middle made → HasGoneOnBy number middle last made'
     → HasGoneOnBy number first last (made' ++ made)

@@ -1,5 +1,6 @@
 pub mod Alone
 pub mod Epochs
+pub mod Sharing
 pub mod Logged
 pub mod Sizes
 pub mod Theorems

@@ -1,4 +1,5 @@
 pub mod Lasting
 pub mod Laws
 pub mod Epochs
+pub mod Shared
 pub mod inside

@@ -1,0 +1,732 @@
+-- Each step of the shared lanes keeps their rule.
+use Rattle.std.proofs.Common.{◌≡◌, ◌∙◌, ◌≢◌, ◌+◌, ◌<◌, ◌≤◌, ◌==◌, ◌++◌, ℕ, zero, suc, Bool, true, false, if◌then◌else◌, List, [], ◌∷◌, All, Some, length, slice_index, slice_set, inl, inr, ◌⊎◌, ap, refl, subst, sym, arith}
+use mathlib.Core.Option as maths
+use mathlib.Core.Option.{none, some, some-injective, some-ne-none}
+use lib.ListN.{get_elem?}
+use prog.Atomic.{either}
+use Rattle.std.specs.Prelude.{None, Option, map, replicate, slice_get, unwrap_or}
+use Rattle.std.proofs.lemmas.Bool.Decides.{nat_tests}
+use Rattle.std.proofs.lemmas.List.{append_assoc, get_or-replicate, get_or-set_other, get_or-set_same, length-append, length-map, length-replicate, length-set, set-get_or}
+use Rattle.std.proofs.lemmas.List.Elements.{All-append, All-nil}
+use Rattle.atomic_table.proofs.Lists.{at_set, at_snoc, exchanged, set_again, set_else, set_here}
+use Rattle.atomic_table.specs.Table.{Act, Allows, Me, Splits, Step, Valid, carried_after, chain, gives, keeps, opening, rest, step, stepped, takes}
+use Rattle.nb_core.specs.Log.{Entry, IsReplayed, calls_of}
+use Rattle.nb_core.specs.Plans.{Plan}
+use Rattle.nb_map.specs.Entries.{IsRead}
+use Rattle.nb_map.specs.Handles.{HandleOf}
+use Rattle.nb_map.specs.Logs.{log}
+use Rattle.nb_map.specs.Maps.{MapOf, SeatOf}
+use Rattle.nb_lasting.proofs.Epochs.{goes_on}
+use Rattle.nb_lasting.specs.Epochs.{EpochOf, HasGoneOnBy}
+use Rattle.nb_lasting.specs.Shared.{Has, HasTaken, Holds, HoldsAnew, IsAt, IsCurrent, IsLane, IsOneLog, Ken, KnowsIn, Moment, Out, Takes, absent, all_knew, given, given_anew, holders, times}
+
+abbrev Homes : Type 0
+Homes = List (maths.Option (Option HandleOf))
+
+-- ---- lists
+
+abbrev Same : ℕ → ℕ → Type 0
+Same i k = ((i ≡ k) × ((i == k) ≡ true)) ⊎ ((i ≢ k) × ((i == k) ≡ false))
+
+-- by cases on whether two numbers are equal
+decided : (i k : ℕ) → Same i k
+decided i k = split (i == k) refl
+  where
+    split : (b : Bool) → (i == k) ≡ b → Same i k
+    split true is = inl (grind (arith, nat_tests, is), is)
+    split false is = inr (grind (arith, nat_tests, is), is)
+
+holders_set :
+    (i : ℕ) (views : List Ken) (id : ℕ) (v w : Ken) → get_elem? views id ≡ some v
+    → holders i (slice_set views id w) + times i v.outs ≡ holders i views + times i w.outs
+holders_set i [] id v w at = absurd (some-ne-none v (sym at))
+holders_set i (x ∷ xs) zero v w at =
+    let same : times i x.outs ≡ times i v.outs =
+    ap (λ (u : Ken). times i u.outs) (some-injective x v at) in
+    omega (arith, same)
+holders_set i (x ∷ xs) (suc id) v w at = omega (arith, holders_set i xs id v w at)
+
+times_here : (out : Out) (outs : List Out) → times out.lane (out ∷ outs) ≡ 1 + times out.lane outs
+times_here out outs = here (decided out.lane out.lane)
+  where
+    here : Same out.lane out.lane → times out.lane (out ∷ outs) ≡ 1 + times out.lane outs
+    here (inl (_, is)) =
+        ap (λ b. if b then 1 + times out.lane outs else times out.lane outs) is
+    here (inr (not, _)) = absurd (not refl)
+
+times_else : (i : ℕ) (out : Out) (outs : List Out) → (i == out.lane) ≡ false
+    → times i (out ∷ outs) ≡ times i outs
+times_else i out outs is = ap (λ b. if b then 1 + times i outs else times i outs) is
+
+-- a lane is out that is in the list
+has_times : (out : Out) (outs : List Out) → Has out outs → 1 ≤ times out.lane outs
+has_times out [] has = absurd has
+has_times out (o ∷ outs) (inl is) =
+    subst (λ (x : Out). 1 ≤ times x.lane (o ∷ outs)) is (omega (arith, times_here o outs))
+has_times out (o ∷ outs) (inr has) = by (decided out.lane o.lane) (has_times out outs has)
+  where
+    by : Same out.lane o.lane → 1 ≤ times out.lane outs → 1 ≤ times out.lane (o ∷ outs)
+    by (inl (is, same)) some-time =
+        let e = ap (λ b. if b then 1 + times out.lane outs else times out.lane outs) same in
+        omega (arith, e)
+    by (inr (other, no-it)) some-time = omega (arith, times_else out.lane o outs no-it, some-time)
+
+-- and one that is out is in the list
+times_has : (i : ℕ) (outs : List Out) → 1 ≤ times i outs
+    → (out : Out) × Has out outs × (out.lane ≡ i)
+times_has i [] some-time = absurd (omega (arith, some-time))
+times_has i (o ∷ outs) some-time = by (decided i o.lane) (times_has i outs)
+  where
+    by : Same i o.lane → (1 ≤ times i outs → (out : Out) × Has out outs × (out.lane ≡ i))
+        → (out : Out) × Has out (o ∷ outs) × (out.lane ≡ i)
+    by (inl (is, _)) later = (o, inl refl, sym is)
+    by (inr (other, differ)) later =
+        let found = later (omega (arith, times_else i o outs differ, some-time)) in
+        (found.0, inr found.1, found.2)
+
+times_all_knew : (i : ℕ) (whole : List Entry) (outs : List Out)
+    → times i (all_knew whole outs) ≡ times i outs
+times_all_knew i whole [] = refl
+times_all_knew i whole (o ∷ outs) =
+    ap (λ n. if i == o.lane then 1 + n else n) (times_all_knew i whole outs)
+
+has_all_knew : (out : Out) (whole : List Entry) (outs : List Out) → Has out (all_knew whole outs)
+    → whole ≡ out.knew
+has_all_knew out whole [] has = absurd has
+has_all_knew out whole (o ∷ outs) (inl is) = ap (λ (x : Out). x.knew) is
+has_all_knew out whole (o ∷ outs) (inr has) = has_all_knew out whole outs has
+
+holders_have :
+    (i : ℕ) (views : List Ken) (id : ℕ) (v : Ken) → get_elem? views id ≡ some v
+    → times i v.outs ≤ holders i views
+holders_have i [] id v at = absurd (some-ne-none v (sym at))
+holders_have i (x ∷ xs) zero v at =
+    let same : times i x.outs ≡ times i v.outs =
+    ap (λ (u : Ken). times i u.outs) (some-injective x v at) in
+    omega (arith, same)
+holders_have i (x ∷ xs) (suc id) v at = omega (arith, holders_have i xs id v at)
+
+holders_two :
+    (i : ℕ) (views : List Ken) (id other : ℕ) (v u : Ken) → other ≢ id → get_elem? views id ≡ some v
+    → get_elem? views other ≡ some u
+    → times i v.outs + times i u.outs ≤ holders i views
+holders_two i [] id other v u differ at at' = absurd (some-ne-none v (sym at))
+holders_two i (x ∷ xs) zero zero v u differ at at' = absurd (differ refl)
+holders_two i (x ∷ xs) zero (suc other) v u differ at at' =
+    let same : times i x.outs ≡ times i v.outs =
+    ap (λ (z : Ken). times i z.outs) (some-injective x v at) in
+    omega (arith, same, holders_have i xs other u at')
+holders_two i (x ∷ xs) (suc id) zero v u differ at at' =
+    let same : times i x.outs ≡ times i u.outs =
+    ap (λ (z : Ken). times i z.outs) (some-injective x u at') in
+    omega (arith, same, holders_have i xs id v at)
+holders_two i (x ∷ xs) (suc id) (suc other) v u differ at at' =
+    omega (arith, holders_two i xs id other v u (λ e. differ (ap suc e)) at at')
+
+present :
+    (homes : Homes) (i : ℕ) → i < length homes → absent (get_elem? homes i) ≡ 0
+    → (y : Option HandleOf) × (get_elem? homes i ≡ some (some y))
+present [] i within e = absurd (omega (arith, within))
+present (none ∷ hs) zero within e = absurd (omega (arith, e))
+present (some y ∷ hs) zero within e = (y, refl)
+present (x ∷ hs) (suc i) within e = present hs i (omega (arith, within)) e
+
+at_most : (x : maths.Option (maths.Option (Option HandleOf))) → absent x ≤ 1
+at_most (some none) = omega arith
+at_most (some (some y)) = omega arith
+at_most none = omega arith
+
+at_within : {X : Type 0} (xs : List X) (i : ℕ) (x : X) → get_elem? xs i ≡ some x → i < length xs
+at_within [] i x at = absurd (some-ne-none x (sym at))
+at_within (y ∷ ys) zero x at = omega arith
+at_within (y ∷ ys) (suc i) x at = omega (arith, at_within ys i x at)
+
+there : (homes : Homes) (i : ℕ) → 1 ≤ absent (get_elem? homes i) → i < length homes
+there [] i e = absurd (omega (arith, e))
+there (x ∷ hs) zero e = omega arith
+there (x ∷ hs) (suc i) e = omega (arith, there hs i e)
+
+-- ---- logs
+
+-- what is current is so still after reads
+current_more :
+    (i : ℕ) (seen middle last : List Entry) → IsCurrent i seen middle → IsCurrent i middle last
+    → IsCurrent i seen last
+current_more i seen middle last one two = record {
+  made = two.made ++ one.made;
+  reads = All-append IsRead two.made one.made two.reads one.reads;
+  gone = goes_on i seen middle last one.made two.made one.gone two.gone;
+}
+
+current_here : (i : ℕ) (seen : List Entry) → IsReplayed seen → IsCurrent i seen seen
+current_here i seen replayed = record {
+  made = [];
+  reads = All-nil IsRead;
+  gone = record { later = []; grown = refl; replayed = replayed; own = refl };
+}
+
+current_gone :
+    (i : ℕ) (seen whole : List Entry) → HasGoneOnBy i seen whole [] → IsCurrent i seen whole
+current_gone i seen whole gone = record { made = []; reads = All-nil IsRead; gone = gone }
+
+-- ---- a lane is taken
+
+module _
+    (p : Plan) (s : Moment) (rule : IsOneLog p s) (id : ℕ) (me : Me (Option HandleOf) Ken)
+    (at : get_elem? s.views id ≡ some me.0) (lane : ℕ) (within : lane < p.seats) where
+  out-taken : Out
+  out-taken = record { lane = lane; knew = rule.current lane }
+
+  abbrev taken : Ken
+  taken = record {
+    guest = me.0.guest;
+    seen = me.0.seen;
+    map = rule.shared;
+    filled = rule.epoch.filled;
+    past = rule.epoch.past;
+    outs = record { lane = lane; knew = rule.current lane } ∷ me.0.outs;
+  }
+
+  take-keeps :
+      (handle : HandleOf) → absent (get_elem? s.homes lane) ≡ 0
+      → IsOneLog p (stepped s lane 1 id me.1 taken (takes lane (Some handle)))
+  take-keeps handle home = record {
+    shared = rule.shared;
+    epoch = rule.epoch;
+    current = rule.current;
+    count = length-set s.homes lane none ∙ rule.count;
+    long = length-set s.words lane 1 ∙ rule.long;
+    homes = homes;
+    words = λ i below. words i below (decided i lane);
+    once = λ i. once i (decided i lane);
+    held = held;
+    knew = knew;
+    guests = guests;
+    one_guest = one-guest;
+  }
+    where
+      here : get_elem? (slice_set s.homes lane none) lane ≡ some none
+      here = set_here s.homes lane none (omega (arith, within, rule.count))
+
+      homes :
+          (i : ℕ) (y : Option HandleOf) → get_elem? (slice_set s.homes lane none) i ≡ some (some y)
+          → (handle : HandleOf) × (y ≡ Some handle) × IsLane rule.shared i handle
+          × KnowsIn rule.epoch.filled rule.epoch.past handle.seat (rule.current i)
+      homes i y found = by (at_set s.homes lane i none (some y) found)
+        where
+          by : ((i ≡ lane) × (none ≡ some y)) ⊎ ((i ≢ lane) × (get_elem? s.homes i ≡ some (some y)))
+              → (handle : HandleOf) × (y ≡ Some handle) × IsLane rule.shared i handle
+              × KnowsIn rule.epoch.filled rule.epoch.past handle.seat (rule.current i)
+          by (inl (_, never)) = absurd (some-ne-none y (sym never))
+          by (inr (_, old)) = rule.homes i y old
+
+      words :
+          (i : ℕ) → i < p.seats → Same i lane
+          → slice_index (slice_set s.words lane 1) i
+          ≡ absent (get_elem? (slice_set s.homes lane none) i)
+      words i below (inl (is, _)) =
+          subst (λ n. slice_index (slice_set s.words lane 1) n
+          ≡ absent (get_elem? (slice_set s.homes lane none) n)) (sym is)
+          (get_or-set_same s.words lane 1 0 (omega (arith, within, rule.long)) ∙ ap absent (sym here))
+      words i below (inr (other, _)) =
+          get_or-set_other s.words lane i 1 0 other
+          ∙ (rule.words i below ∙ ap absent (sym (set_else s.homes lane i none other)))
+
+      once :
+          (i : ℕ) → Same i lane
+          → holders i (slice_set s.views id taken)
+          ≡ absent (get_elem? (slice_set s.homes lane none) i)
+      once i (inl (is, _)) =
+          subst (λ n. holders n (slice_set s.views id taken)
+          ≡ absent (get_elem? (slice_set s.homes lane none) n)) (sym is)
+          (let moved = holders_set lane s.views id me.0 taken at in
+          let now : absent (get_elem? (slice_set s.homes lane none) lane) ≡ 1 = ap absent here in
+          let more : times lane taken.outs ≡ 1 + times lane me.0.outs =
+          times_here (record { lane = lane; knew = rule.current lane }) me.0.outs in
+          omega (arith, moved, more, rule.once lane, home, now))
+      once i (inr (other, differ)) =
+          let moved = holders_set i s.views id me.0 taken at in
+          let same : absent (get_elem? (slice_set s.homes lane none) i)
+          ≡ absent (get_elem? s.homes i) = ap absent (set_else s.homes lane i none other) in
+          let more : times i taken.outs ≡ times i me.0.outs =
+          times_else i (record { lane = lane; knew = rule.current lane }) me.0.outs differ in
+          omega (arith, moved, more, rule.once i, same)
+
+      held :
+          (id' : ℕ) (v : Ken) → get_elem? (slice_set s.views id taken) id' ≡ some v → v.outs ≢ []
+          → IsAt rule.shared rule.epoch v
+      held id' v found some-lane = by (at_set s.views id id' taken v found)
+        where
+          by : ((id' ≡ id) × (taken ≡ v)) ⊎ ((id' ≢ id) × (get_elem? s.views id' ≡ some v))
+              → IsAt rule.shared rule.epoch v
+          by (inl (_, is)) =
+              subst (IsAt rule.shared rule.epoch) is
+              (record { map = refl; filled = refl; past = refl })
+          by (inr (_, old)) = rule.held id' v old some-lane
+
+      knew :
+          (id' : ℕ) (v : Ken) (out : Out) → get_elem? (slice_set s.views id taken) id' ≡ some v
+          → Has out v.outs → rule.current out.lane ≡ out.knew
+      knew id' v out found has = by (at_set s.views id id' taken v found)
+        where
+          mine : Has out taken.outs → rule.current out.lane ≡ out.knew
+          mine (inl is) =
+              subst (λ (x : Out). rule.current x.lane ≡ x.knew) is refl
+          mine (inr old) = rule.knew id me.0 out at old
+
+          by : ((id' ≡ id) × (taken ≡ v)) ⊎ ((id' ≢ id) × (get_elem? s.views id' ≡ some v))
+              → rule.current out.lane ≡ out.knew
+          by (inl (_, is)) = mine (subst (λ (x : Ken). Has out x.outs) (sym is) has)
+          by (inr (_, old)) = rule.knew id' v out old has
+
+      guests :
+          (id' : ℕ) (v : Ken) (i : ℕ) → get_elem? (slice_set s.views id taken) id' ≡ some v
+          → v.guest ≡ Some i → (i < p.seats) × IsCurrent i v.seen (rule.current i)
+      guests id' v i found is-guest = by (at_set s.views id id' taken v found)
+        where
+          by : ((id' ≡ id) × (taken ≡ v)) ⊎ ((id' ≢ id) × (get_elem? s.views id' ≡ some v))
+              → (i < p.seats) × IsCurrent i v.seen (rule.current i)
+          by (inl (_, is)) =
+              subst (λ (x : Ken). (i < p.seats) × IsCurrent i x.seen (rule.current i)) is
+              (rule.guests id me.0 i at (ap (λ (x : Ken). x.guest) is ∙ is-guest))
+          by (inr (_, old)) = rule.guests id' v i old is-guest
+
+      -- a token's guest, before the step
+      was :
+          (id' : ℕ) (v : Ken) → get_elem? (slice_set s.views id taken) id' ≡ some v
+          → (x : Ken) × (get_elem? s.views id' ≡ some x) × (x.guest ≡ v.guest)
+      was id' v found = by (at_set s.views id id' taken v found)
+        where
+          by : ((id' ≡ id) × (taken ≡ v)) ⊎ ((id' ≢ id) × (get_elem? s.views id' ≡ some v))
+              → (x : Ken) × (get_elem? s.views id' ≡ some x) × (x.guest ≡ v.guest)
+          by (inl (here, is)) = (
+            me.0,
+            ap (get_elem? s.views) here ∙ at,
+            ap (λ (x : Ken). x.guest) is,
+          )
+          by (inr (_, old)) = (v, old, refl)
+
+      one-guest :
+          (id' other : ℕ) (v u : Ken) (i : ℕ)
+          → get_elem? (slice_set s.views id taken) id' ≡ some v
+          → get_elem? (slice_set s.views id taken) other ≡ some u → v.guest ≡ Some i
+          → u.guest ≡ Some i → id' ≡ other
+      one-guest id' other v u i found found' is-guest is-guest' =
+          let x = was id' v found in
+          let y = was other u found' in
+          rule.one_guest id' other x.0 y.0 i x.1 y.1 (x.2 ∙ is-guest) (y.2 ∙ is-guest')
+
+  same-state : IsOneLog p (stepped s lane (slice_index s.words lane) id me.1 me.0 keeps)
+  same-state =
+      subst (λ ws. IsOneLog p (record {
+        words = ws;
+        homes = s.homes;
+        views = slice_set s.views id me.0;
+      }))
+      (sym (set-get_or s.words lane 0))
+      (subst (λ vs. IsOneLog p (record { words = s.words; homes = s.homes; views = vs }))
+      (sym (set_again s.views id me.0 at)) rule)
+
+  abbrev Goes : ℕ → ℕ → Type 0
+  Goes slots k = (w : Ken) × (a : Act (Option HandleOf)) × Valid s.homes me.1 a
+      × IsOneLog p (stepped s lane k id me.1 w a)
+      × Takes (step slots lane 0 1 none) me (slice_index s.words lane) (w, carried_after me.1 a)
+
+  hit : (slots : ℕ) → slice_index s.words lane ≡ 0 → Goes slots 1
+  hit slots is =
+      let home : absent (get_elem? s.homes lane) ≡ 0 = sym (rule.words lane within) ∙ is in
+      let y = present s.homes lane (omega (arith, within, rule.count)) home in
+      let lies = rule.homes lane y.0 y.1 in (
+        taken,
+        takes lane (Some lies.0),
+        y.1 ∙ ap (λ z. some (some z)) lies.1,
+        take-keeps lies.0 home,
+        (
+          (λ _. record {
+            handle = lies.0;
+            knew = rule.current lane;
+            outs = refl;
+            slots = refl;
+            one = lies.2;
+            knows = lies.3;
+            guest = (refl, refl);
+            mine = λ own. (rule.guests id me.0 lane at own).1;
+            same = λ some-lane.
+                let there-at = rule.held id me.0 at some-lane in
+                (sym there-at.map, sym there-at.filled, sym there-at.past);
+          }),
+          (λ not. absurd (not is)),
+        ),
+      )
+
+  miss : (slots : ℕ) → slice_index s.words lane ≢ 0 → Goes slots (slice_index s.words lane)
+  miss slots not = (me.0, keeps, tt, same-state, ((λ is. absurd (not is)), (λ _. refl)))
+
+pub take_allowed :
+    (p : Plan) (slots id : ℕ) (me : Me (Option HandleOf) Ken) (lane : ℕ) → lane < p.seats
+    → Allows (IsOneLog p) slots id me lane (λ n. either (n == 0) 1 n)
+    (Takes (step slots lane 0 1 none) me)
+take_allowed p slots id me lane within s rule homes at fits =
+    exchanged (slice_index s.words lane) 0 1 (Goes p s rule id me at lane within slots)
+    (hit p s rule id me at lane within slots) (miss p s rule id me at lane within slots)
+
+-- ---- a lane is given back
+
+-- The structure of the rule lasts, where a lane's handle comes home. What is left to say is what is
+-- known then: of the handles that are at home, and of the views.
+module _
+    (p : Plan) (s : Moment) (rule : IsOneLog p s) (id : ℕ) (v w : Ken) (lane : ℕ) (knew : List Entry)
+    (handle : HandleOf) (more : List (ℕ × Option HandleOf)) (at : get_elem? s.views id ≡ some v)
+    (within : lane < p.seats) (guest : w.guest ≡ v.guest)
+    (one-less : (i : ℕ) → times i v.outs ≡ times i (record { lane = lane; knew = knew } ∷ w.outs)) where
+  after : Moment
+  after = stepped s lane 0 id ((lane, Some handle) ∷ more) w gives
+
+  lane-out : Out
+  lane-out = record { lane = lane; knew = knew }
+
+  more-here : times lane v.outs ≡ 1 + times lane w.outs
+  more-here = one-less lane ∙ times_here (record { lane = lane; knew = knew }) w.outs
+
+  back-here : get_elem? (slice_set s.homes lane (some (Some handle))) lane ≡ some (some (Some handle))
+  back-here = set_here s.homes lane (some (Some handle)) (omega (arith, within, rule.count))
+
+  back-words :
+      (i : ℕ) → i < p.seats → Same i lane
+      → slice_index (slice_set s.words lane 0) i
+      ≡ absent (get_elem? (slice_set s.homes lane (some (Some handle))) i)
+  back-words i below (inl (is, _)) =
+      subst (λ n. slice_index (slice_set s.words lane 0) n
+      ≡ absent (get_elem? (slice_set s.homes lane (some (Some handle))) n)) (sym is)
+      (get_or-set_same s.words lane 0 0 (omega (arith, within, rule.long)) ∙ ap absent (sym back-here))
+  back-words i below (inr (other, _)) =
+      get_or-set_other s.words lane i 0 0 other
+      ∙ (rule.words i below ∙ ap absent (sym (set_else s.homes lane i (some (Some handle)) other)))
+
+  back-once :
+      (i : ℕ) → Same i lane
+      → holders i (slice_set s.views id w)
+      ≡ absent (get_elem? (slice_set s.homes lane (some (Some handle))) i)
+  back-once i (inl (is, _)) =
+      subst (λ n. holders n (slice_set s.views id w)
+      ≡ absent (get_elem? (slice_set s.homes lane (some (Some handle))) n)) (sym is)
+      (let moved = holders_set lane s.views id v w at in
+      let now : absent (get_elem? (slice_set s.homes lane (some (Some handle))) lane) ≡ 0 =
+      ap absent back-here in
+      omega (arith, moved, more-here, rule.once lane, at_most (get_elem? s.homes lane), now))
+  back-once i (inr (other, differ)) =
+      let moved = holders_set i s.views id v w at in
+      let same : absent (get_elem? (slice_set s.homes lane (some (Some handle))) i)
+      ≡ absent (get_elem? s.homes i) =
+      ap absent (set_else s.homes lane i (some (Some handle)) other) in
+      let less = one-less i ∙ times_else i (record { lane = lane; knew = knew }) w.outs differ in
+      omega (arith, moved, less, rule.once i, same)
+
+  -- a token's guest, before the step
+  back-was :
+      (id' : ℕ) (u : Ken) → get_elem? (slice_set s.views id w) id' ≡ some u
+      → (x : Ken) × (get_elem? s.views id' ≡ some x) × (x.guest ≡ u.guest)
+  back-was id' u found = by (at_set s.views id id' w u found)
+    where
+      by : ((id' ≡ id) × (w ≡ u)) ⊎ ((id' ≢ id) × (get_elem? s.views id' ≡ some u))
+          → (x : Ken) × (get_elem? s.views id' ≡ some x) × (x.guest ≡ u.guest)
+      by (inl (here, is)) = (
+        v,
+        ap (get_elem? s.views) here ∙ at,
+        sym guest ∙ ap (λ (x : Ken). x.guest) is,
+      )
+      by (inr (_, old)) = (u, old, refl)
+
+  back-keeps :
+      (m : MapOf) (e : EpochOf) (current : ℕ → List Entry)
+      → IsLane m lane handle → KnowsIn e.filled e.past handle.seat (current lane)
+      → ((i : ℕ) (y : Option HandleOf) → i ≢ lane → get_elem? s.homes i ≡ some (some y)
+          → (h : HandleOf) × (y ≡ Some h) × IsLane m i h
+          × KnowsIn e.filled e.past h.seat (current i))
+      → (w.outs ≢ [] → IsAt m e w)
+      → ((other : ℕ) (u : Ken) → other ≢ id → get_elem? s.views other ≡ some u → u.outs ≢ []
+          → IsAt m e u)
+      → ((out : Out) → Has out w.outs → current out.lane ≡ out.knew)
+      → ((other : ℕ) (u : Ken) (out : Out) → other ≢ id → get_elem? s.views other ≡ some u
+          → Has out u.outs → current out.lane ≡ out.knew)
+      → ((i : ℕ) → w.guest ≡ Some i → IsCurrent i w.seen (current i))
+      → ((other : ℕ) (u : Ken) (i : ℕ) → other ≢ id → get_elem? s.views other ≡ some u
+          → u.guest ≡ Some i → IsCurrent i u.seen (current i))
+      → IsOneLog p (stepped s lane 0 id ((lane, Some handle) ∷ more) w gives)
+  back-keeps m e current one knows elsewhere mine-at away-at mine-knew away-knew mine-seen away-seen =
+      record {
+        shared = m;
+        epoch = e;
+        current = current;
+        count = length-set s.homes lane (some (Some handle)) ∙ rule.count;
+        long = length-set s.words lane 0 ∙ rule.long;
+        homes = homes;
+        words = λ i below. back-words i below (decided i lane);
+        once = λ i. back-once i (decided i lane);
+        held = held;
+        knew = knew-of;
+        guests = guests;
+        one_guest = λ id' other u x i found found' is-guest is-guest'.
+            let a = back-was id' u found in
+            let b = back-was other x found' in
+            rule.one_guest id' other a.0 b.0 i a.1 b.1 (a.2 ∙ is-guest) (b.2 ∙ is-guest');
+      }
+    where
+      Home : ℕ → Option HandleOf → Type 0
+      Home i y = (h : HandleOf) × (y ≡ Some h) × IsLane m i h
+          × KnowsIn e.filled e.past h.seat (current i)
+
+      homes :
+          (i : ℕ) (y : Option HandleOf)
+          → get_elem? (slice_set s.homes lane (some (Some handle))) i ≡ some (some y) → Home i y
+      homes i y found = by (at_set s.homes lane i (some (Some handle)) (some y) found)
+        where
+          by : ((i ≡ lane) × (some (Some handle) ≡ some y))
+              ⊎ ((i ≢ lane) × (get_elem? s.homes i ≡ some (some y)))
+              → Home i y
+          by (inl (is, same)) =
+              subst (λ n. Home n y) (sym is)
+              (handle, sym (some-injective (Some handle) y same), one, knows)
+          by (inr (other, old)) = elsewhere i y other old
+
+      held : (id' : ℕ) (u : Ken) → get_elem? (slice_set s.views id w) id' ≡ some u → u.outs ≢ []
+          → IsAt m e u
+      held id' u found some-lane = by (at_set s.views id id' w u found)
+        where
+          by : ((id' ≡ id) × (w ≡ u)) ⊎ ((id' ≢ id) × (get_elem? s.views id' ≡ some u)) → IsAt m e u
+          by (inl (_, is)) =
+              subst (IsAt m e) is
+              (mine-at (λ none-left. some-lane (ap (λ (x : Ken). x.outs) (sym is) ∙ none-left)))
+          by (inr (other, old)) = away-at id' u other old some-lane
+
+      knew-of : (id' : ℕ) (u : Ken) (out : Out) → get_elem? (slice_set s.views id w) id' ≡ some u
+          → Has out u.outs → current out.lane ≡ out.knew
+      knew-of id' u out found has = by (at_set s.views id id' w u found)
+        where
+          by : ((id' ≡ id) × (w ≡ u)) ⊎ ((id' ≢ id) × (get_elem? s.views id' ≡ some u))
+              → current out.lane ≡ out.knew
+          by (inl (_, is)) = mine-knew out (subst (λ (x : Ken). Has out x.outs) (sym is) has)
+          by (inr (other, old)) = away-knew id' u out other old has
+
+      guests : (id' : ℕ) (u : Ken) (i : ℕ) → get_elem? (slice_set s.views id w) id' ≡ some u
+          → u.guest ≡ Some i → (i < p.seats) × IsCurrent i u.seen (current i)
+      guests id' u i found is-guest =
+          let x = back-was id' u found in (
+            (rule.guests id' x.0 i x.1 (x.2 ∙ is-guest)).0,
+            by (at_set s.views id id' w u found),
+          )
+        where
+          by : ((id' ≡ id) × (w ≡ u)) ⊎ ((id' ≢ id) × (get_elem? s.views id' ≡ some u))
+              → IsCurrent i u.seen (current i)
+          by (inl (_, is)) =
+              subst (λ (x : Ken). IsCurrent i x.seen (current i)) is
+              (mine-seen i (ap (λ (x : Ken). x.guest) is ∙ is-guest))
+          by (inr (other, old)) = away-seen id' u i other old is-guest
+
+-- ---- what is current in the lanes
+
+-- the logs, of which one lane's is another
+abbrev with_current : (ℕ → List Entry) → ℕ → List Entry → ℕ → List Entry
+with_current current lane whole i = if i == lane then whole else current i
+
+with-here :
+    (current : ℕ → List Entry) (lane : ℕ) (whole : List Entry)
+    → with_current current lane whole lane ≡ whole
+with-here current lane whole = by (decided lane lane)
+  where
+    by : Same lane lane → with_current current lane whole lane ≡ whole
+    by (inl (_, is)) = ap (λ b. if b then whole else current lane) is
+    by (inr (not, _)) = absurd (not refl)
+
+with-else :
+    (current : ℕ → List Entry) (lane i : ℕ) (whole : List Entry) → i ≢ lane
+    → with_current current lane whole i ≡ current i
+with-else current lane i whole other = by (decided i lane)
+  where
+    by : Same i lane → with_current current lane whole i ≡ current i
+    by (inl (is, _)) = absurd (other is)
+    by (inr (_, differ)) = ap (λ b. if b then whole else current i) differ
+
+some-is : (i j : ℕ) → ◌≡◌ {A = Option ℕ} (Some i) (Some j) → i ≡ j
+some-is i j e = ap (λ o. unwrap_or o i) e
+
+-- ---- a handle of the same map comes home
+
+module _
+    (p : Plan) (s : Moment) (rule : IsOneLog p s) (id : ℕ) (v : Ken) (lane : ℕ)
+    (knew whole : List Entry) (outs : List Out) (handle : HandleOf)
+    (more : List (ℕ × Option HandleOf)) (at : get_elem? s.views id ≡ some v)
+    (within : lane < p.seats) (view : v.outs ≡ record { lane = lane; knew = knew } ∷ outs)
+    (one : IsLane v.map lane handle) (knows : KnowsIn v.filled v.past handle.seat whole) where
+  is-at : IsAt rule.shared rule.epoch v
+  is-at = rule.held id v at (λ none-left. absurd (omega (arith, ap length (sym view ∙ none-left))))
+
+  had : Has (record { lane = lane; knew = knew }) v.outs
+  had = subst (Has (record { lane = lane; knew = knew })) (sym view) (inl refl)
+
+  was-current : rule.current lane ≡ knew
+  was-current = rule.knew id v (record { lane = lane; knew = knew }) at had
+
+  times-lane : times lane v.outs ≡ 1 + times lane outs
+  times-lane = ap (times lane) view ∙ times_here (record { lane = lane; knew = knew }) outs
+
+  few : times lane v.outs ≤ 1
+  few =
+      let have = holders_have lane s.views id v at in
+      omega (arith, have, rule.once lane, at_most (get_elem? s.homes lane))
+
+  elsewhere-mine : (out : Out) → Has out outs → out.lane ≢ lane
+  elsewhere-mine out has is =
+      let again : 1 ≤ times lane outs = subst (λ n. 1 ≤ times n outs) is (has_times out outs has) in
+      omega (arith, again, few, times-lane)
+
+  elsewhere-away :
+      (other : ℕ) (u : Ken) (out : Out) → other ≢ id → get_elem? s.views other ≡ some u
+      → Has out u.outs → out.lane ≢ lane
+  elsewhere-away other u out differ at' has is =
+      let again : 1 ≤ times lane u.outs =
+      subst (λ n. 1 ≤ times n u.outs) is (has_times out u.outs has) in
+      let two = holders_two lane s.views id other v u differ at at' in
+      omega (arith, again, two, times-lane, rule.once lane, at_most (get_elem? s.homes lane))
+
+  home-keeps :
+      (seen : List Entry)
+      → ((i : ℕ) → v.guest ≡ Some i → IsCurrent i seen (with_current rule.current lane whole i))
+      → ((other : ℕ) (u : Ken) (i : ℕ) → other ≢ id → get_elem? s.views other ≡ some u
+          → u.guest ≡ Some i → IsCurrent i u.seen (with_current rule.current lane whole i))
+      → IsOneLog p (stepped s lane 0 id ((lane, Some handle) ∷ more) (given v outs seen) gives)
+  home-keeps seen mine away =
+      back-keeps p s rule id v (given v outs seen) lane knew handle more at within refl
+      (λ i. ap (times i) view) rule.shared rule.epoch (with_current rule.current lane whole)
+      (record { map = one.map ∙ is-at.map; number = one.number; alone = one.alone })
+      (subst (KnowsIn rule.epoch.filled rule.epoch.past handle.seat)
+      (sym (with-here rule.current lane whole)) (record {
+        later = knows.later;
+        here = knows.here ∙ ap (λ l. knows.later ++ l) is-at.filled;
+        is = knows.is ∙ ap (λ l. knows.later ++ l) is-at.past;
+        replayed = knows.replayed;
+      }))
+      (λ i y other old. subst (λ l. (h : HandleOf) × (y ≡ Some h) × IsLane rule.shared i h
+      × KnowsIn rule.epoch.filled rule.epoch.past h.seat l)
+      (sym (with-else rule.current lane i whole other)) (rule.homes i y old))
+      (λ _. record { map = is-at.map; filled = is-at.filled; past = is-at.past })
+      (λ other u differ old some-lane. rule.held other u old some-lane)
+      (λ out has. with-else rule.current lane out.lane whole (elsewhere-mine out has)
+      ∙ rule.knew id v out at (subst (Has out) (sym view) (inr has)))
+      (λ other u out differ old has.
+      with-else rule.current lane out.lane whole (elsewhere-away other u out differ old has)
+      ∙ rule.knew other u out old has)
+      mine away
+
+  -- by its guest, which has seen all that the handle knows
+  give-keeps :
+      v.guest ≡ Some lane
+      → IsOneLog p (stepped s lane 0 id ((lane, Some handle) ∷ more) (given v outs whole) gives)
+  give-keeps is-guest = home-keeps whole mine away
+    where
+      mine : (i : ℕ) → v.guest ≡ Some i
+          → IsCurrent i whole (with_current rule.current lane whole i)
+      mine i is =
+          let same : lane ≡ i = some-is lane i (sym is-guest ∙ is) in
+          subst (λ n. IsCurrent n whole (with_current rule.current lane whole n)) same
+          (subst (IsCurrent lane whole) (sym (with-here rule.current lane whole))
+          (current_here lane whole knows.replayed))
+
+      away : (other : ℕ) (u : Ken) (i : ℕ) → other ≢ id → get_elem? s.views other ≡ some u
+          → u.guest ≡ Some i → IsCurrent i u.seen (with_current rule.current lane whole i)
+      away other u i differ at' is =
+          let elsewhere : i ≢ lane = λ same. differ (rule.one_guest other id u v i at' at is
+          (is-guest ∙ ap Some (sym same))) in
+          subst (IsCurrent i u.seen) (sym (with-else rule.current lane i whole elsewhere))
+          (rule.guests other u i at' is).1
+
+  -- by who has taken it for a renewal that was refused
+  deal-keeps :
+      IsCurrent lane knew whole
+      → IsOneLog p (stepped s lane 0 id ((lane, Some handle) ∷ more) (given v outs v.seen) gives)
+  deal-keeps gone = home-keeps v.seen (λ i is. both id v i at is) (λ other u i differ at' is. both other u i at' is)
+    where
+      both : (other : ℕ) (u : Ken) (i : ℕ) → get_elem? s.views other ≡ some u
+          → u.guest ≡ Some i → IsCurrent i u.seen (with_current rule.current lane whole i)
+      both other u i at' is = by (decided i lane)
+        where
+          old : IsCurrent i u.seen (rule.current i)
+          old = (rule.guests other u i at' is).1
+
+          by : Same i lane → IsCurrent i u.seen (with_current rule.current lane whole i)
+          by (inl (same, _)) =
+              subst (IsCurrent i u.seen)
+              (sym (ap (with_current rule.current lane whole) same
+              ∙ with-here rule.current lane whole))
+              (current_more i u.seen (rule.current i) whole old
+              (subst (λ n. IsCurrent n (rule.current n) whole) (sym same)
+              (subst (λ l. IsCurrent lane l whole) (sym was-current) gone)))
+          by (inr (elsewhere, _)) =
+              subst (IsCurrent i u.seen) (sym (with-else rule.current lane i whole elsewhere)) old
+
+-- ---- a handle of a new map comes home
+
+some_time : (outs : List Out) → outs ≢ [] → (out : Out) × Has out outs
+some_time [] not = absurd (not refl)
+some_time (out ∷ outs) not = (out, inl refl)
+
+module _
+    (p : Plan) (s : Moment) (rule : IsOneLog p s) (id : ℕ) (v : Ken) (lane : ℕ) (knew : List Entry)
+    (outs : List Out) (handle : HandleOf) (next : EpochOf) (more : List (ℕ × Option HandleOf))
+    (at : get_elem? s.views id ≡ some v) (within : lane < p.seats)
+    (view : v.outs ≡ record { lane = lane; knew = knew } ∷ outs)
+    (number : handle.seat.chain.number ≡ lane) (alone : handle.reserve ≡ [])
+    (knows : KnowsIn next.filled next.past handle.seat next.past)
+    (all : (i : ℕ) → i < p.seats → 1 ≤ times i v.outs)
+    (met : (out : Out) → Has out v.outs → HasGoneOnBy out.lane out.knew next.past []) where
+  none-home : (i : ℕ) (y : Option HandleOf) → get_elem? s.homes i ≡ some (some y) → ⊥
+  none-home i y old =
+      let below : i < p.seats = omega (arith, at_within s.homes i (some y) old, rule.count) in
+      let none-out : absent (get_elem? s.homes i) ≡ 0 = ap absent old in
+      let mine = holders_have i s.views id v at in
+      omega (arith, rule.once i, all i below, mine, none-out)
+
+  none-away :
+      (other : ℕ) (u : Ken) (out : Out) → other ≢ id → get_elem? s.views other ≡ some u
+      → Has out u.outs → ⊥
+  none-away other u out differ old has =
+      let again = has_times out u.outs has in
+      let two = holders_two out.lane s.views id other v u differ at old in
+      let below : out.lane < p.seats =
+      omega (arith, there s.homes out.lane (omega (arith, again, two, rule.once out.lane)), rule.count) in
+      omega (arith, two, again, all out.lane below, rule.once out.lane,
+      at_most (get_elem? s.homes out.lane))
+
+  met-by :
+      (other : ℕ) (u : Ken) (i : ℕ) → get_elem? s.views other ≡ some u → u.guest ≡ Some i
+      → IsCurrent i u.seen next.past
+  met-by other u i old is =
+      let was = rule.guests other u i old is in
+      let found = times_has i v.outs (all i was.0) in
+      let current : rule.current i ≡ found.0.knew =
+      ap rule.current (sym found.2) ∙ rule.knew id v found.0 at found.1 in
+      current_more i u.seen (rule.current i) next.past was.1
+      (subst (λ l. IsCurrent i l next.past) (sym current)
+      (current_gone i found.0.knew next.past
+      (subst (λ n. HasGoneOnBy n found.0.knew next.past []) found.2 (met found.0 found.1))))
+
+  anew-keeps :
+      IsOneLog p
+      (stepped s lane 0 id ((lane, Some handle) ∷ more)
+      (given_anew v outs handle.map next.filled next.past) gives)
+  anew-keeps =
+      back-keeps p s rule id v (given_anew v outs handle.map next.filled next.past) lane knew handle
+      more at within refl
+      (λ i. ap (times i) view ∙ ap (λ n. if i == lane then 1 + n else n)
+      (sym (times_all_knew i next.past outs)))
+      handle.map next (λ _. next.past)
+      (record { map = refl; number = number; alone = alone })
+      knows
+      (λ i y other old. absurd (none-home i y old))
+      (λ _. record { map = refl; filled = refl; past = refl })
+      (λ other u differ old some-lane.
+      let out = some_time u.outs some-lane in absurd (none-away other u out.0 differ old out.1))
+      (λ out has. has_all_knew out next.past outs has)
+      (λ other u out differ old has. absurd (none-away other u out differ old has))
+      (λ i is. met-by id v i at is)
+      (λ other u i differ old is. met-by other u i old is)
