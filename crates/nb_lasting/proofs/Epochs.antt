@@ -23,7 +23,7 @@ leaves (entry ∷ later) first first' same =
     ap (map_after entry.call) (leaves later first first' same)
 
 -- and they reply the same
-replays :
+pub replays :
     (later first first' : List Entry) → map_of_log first ≡ map_of_log first'
     → IsReplayed first' → IsReplayed (later ++ first)
     → IsReplayed (later ++ first')

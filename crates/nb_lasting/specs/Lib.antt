@@ -2,4 +2,5 @@ pub mod Lasting
 pub mod Laws
 pub mod Epochs
 pub mod Shared
+pub mod Holding
 pub mod inside

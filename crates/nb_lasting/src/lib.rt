@@ -8,6 +8,7 @@ mod lasting;
 pub mod laws;
 mod present;
 mod shapes;
+mod shared;
 #[cfg(test)]
 mod tests;
 
