@@ -1,6 +1,8 @@
 pub mod Alone
 pub mod Epochs
 pub mod Sharing
+pub mod Joined
+pub mod Renewed
 pub mod Calling
 pub mod Logged
 pub mod Sizes

@@ -4,6 +4,7 @@
 #![tactic(auto)]
 
 mod faults;
+mod gathered;
 mod lasting;
 pub mod laws;
 mod present;

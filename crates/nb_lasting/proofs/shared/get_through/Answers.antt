@@ -23,7 +23,8 @@ give-requires-clause-holds g c =
     c.get-found.new.self
     ((Get c.args.key, record { before = c.get-found.result; matched = true }) ∷ []) c.requires.idle
     (subst (λ h. KeepsRest h c.get-found.new.self) (sym same) c.get-found.ensures.rest)
-    (subst (λ h. HasLogged h.seat c.get-found.new.self.seat _) (sym same)
+    (subst (λ h. HasLogged h.seat c.get-found.new.self.seat
+    ((Get c.args.key, record { before = c.get-found.result; matched = true }) ∷ [])) (sym same)
     c.get-found.ensures.got.replied) _ refl
 
 pub returns : goal.returns
@@ -37,9 +38,13 @@ returns g c =
     record {
       table = c.give.ensures.table ∙ c.hold.ensures.table;
       idle = idle-again c.args.lane c.args.token.now.me c.hold.new.token.me c.hold.ensures.taken
-          c.get-found.new.self _ c.requires.idle keeps logged _ refl c.give.new.token.me
+          c.get-found.new.self
+          ((Get c.args.key, record { before = c.get-found.result; matched = true }) ∷ [])
+          c.requires.idle keeps logged _ refl c.give.new.token.me
           c.give.ensures.given;
       called = has-called c.args.lane c.args.token.now.me c.hold.new.token.me
-          c.hold.ensures.taken c.get-found.new.self _ c.requires.idle keeps logged _ refl
+          c.hold.ensures.taken c.get-found.new.self
+          ((Get c.args.key, record { before = c.get-found.result; matched = true }) ∷ [])
+          c.requires.idle keeps logged _ refl
           c.give.new.token.me c.give.ensures.given;
     }

@@ -1,0 +1,52 @@
+-- What a renewer holds: the handles of the lanes below a number, and of all lanes at last.
+use Rattle.std.specs.Prelude.{◌≡◌, ◌<◌, ℕ, zero, suc, List, [], ◌∷◌, Option, Some, None, IfErr, IfOk, Result, ⊤, length, slice_get}
+use Rattle.atomic_table.specs.Table.{Me}
+use Rattle.nb_core.specs.Log.{log_of}
+use Rattle.nb_core.specs.declared.events.Event.{Event}
+use Rattle.nb_map.specs.Handles.{HandleOf}
+use Rattle.nb_map.specs.Maps.{MapOf}
+use Rattle.nb_map.specs.declared.faults.RenewFault.{RenewFault}
+use Rattle.nb_lasting.specs.Epochs.{HasGoneOnBy}
+use Rattle.nb_lasting.specs.Shared.{EpochIn, IsCurrent, IsLane, KnowsIn}
+use Rattle.nb_lasting.specs.declared.shared.Out.{Out}
+use Rattle.nb_lasting.specs.declared.shared.View.{View}
+
+-- so many handles of this map, each its lane's, and what each of them knows
+pub record AreHeld (m : MapOf) (filled past : List Event) (n : ℕ) (knew : ℕ → List Event)
+    (handles : List HandleOf) : Type 0 where
+  pub count : length handles ≡ n
+  pub each :
+      (i : ℕ) (h : HandleOf) → slice_get handles i ≡ Some h
+      → IsLane m i h × KnowsIn filled past h.seat (knew i)
+
+-- the lanes below a number, the last first, with what their handles knew, and their empty slots
+abbrev pub down : (ℕ → List Event) → ℕ → List Out
+down knew zero = []
+down knew (suc n) = record { lane = n; knew = knew n } ∷ down knew n
+
+abbrev pub blanks : ℕ → List (ℕ × Option HandleOf)
+blanks zero = []
+blanks (suc n) = (n, None) ∷ blanks n
+
+-- The handles of all lanes are of another map, whose epoch goes on from what each lane's handle
+-- knew, by no call of it; and that is what they know.
+pub record AreAnew (n : ℕ) (knew : ℕ → List Event) (handles : List HandleOf) : Type 0 where
+  pub shared : MapOf
+  pub next : EpochIn
+  pub held : AreHeld shared next.filled next.past n (λ _. next.past) handles
+  pub met : (i : ℕ) → i < n → HasGoneOnBy i (log_of (knew i)) (log_of next.past) []
+
+-- They are of the map that they were of, and have called nothing but reads.
+pub record AreAsBefore (m : MapOf) (filled past : List Event) (n : ℕ) (knew : ℕ → List Event)
+    (handles : List HandleOf) : Type 0 where
+  pub know : ℕ → List Event
+  pub held : AreHeld m filled past n know handles
+  pub current : (i : ℕ) → i < n → IsCurrent i (knew i) (know i)
+
+-- what a renewal makes of all handles
+abbrev pub AreRenewed :
+    MapOf → (filled past : List Event) → ℕ → (ℕ → List Event) → (after : List HandleOf)
+    → Result ⊤ RenewFault → Type 0
+AreRenewed m filled past n knew after result =
+    IfOk result (λ done. AreAnew n knew after)
+    × IfErr result (λ fault. AreAsBefore m filled past n knew after)
