@@ -3,6 +3,7 @@ pub mod Epochs
 pub mod Sharing
 pub mod Joined
 pub mod Renewed
+pub mod Dealt
 pub mod Calling
 pub mod Logged
 pub mod Sizes

@@ -28,11 +28,11 @@ Homes = List (maths.Option (Option HandleOf))
 
 -- ---- lists
 
-abbrev Same : ℕ → ℕ → Type 0
+abbrev pub Same : ℕ → ℕ → Type 0
 Same i k = ((i ≡ k) × ((i == k) ≡ true)) ⊎ ((i ≢ k) × ((i == k) ≡ false))
 
 -- by cases on whether two numbers are equal
-decided : (i k : ℕ) → Same i k
+pub decided : (i k : ℕ) → Same i k
 decided i k = split (i == k) refl
   where
     split : (b : Bool) → (i == k) ≡ b → Same i k
@@ -49,7 +49,7 @@ holders_set i (x ∷ xs) zero v w at =
     omega (arith, same)
 holders_set i (x ∷ xs) (suc id) v w at = omega (arith, holders_set i xs id v w at)
 
-times_here : (out : Out) (outs : List Out) → times out.lane (out ∷ outs) ≡ 1 + times out.lane outs
+pub times_here : (out : Out) (outs : List Out) → times out.lane (out ∷ outs) ≡ 1 + times out.lane outs
 times_here out outs = here (decided out.lane out.lane)
   where
     here : Same out.lane out.lane → times out.lane (out ∷ outs) ≡ 1 + times out.lane outs
@@ -57,7 +57,7 @@ times_here out outs = here (decided out.lane out.lane)
         ap (λ b. if b then 1 + times out.lane outs else times out.lane outs) is
     here (inr (not, _)) = absurd (not refl)
 
-times_else : (i : ℕ) (out : Out) (outs : List Out) → (i == out.lane) ≡ false
+pub times_else : (i : ℕ) (out : Out) (outs : List Out) → (i == out.lane) ≡ false
     → times i (out ∷ outs) ≡ times i outs
 times_else i out outs is = ap (λ b. if b then 1 + times i outs else times i outs) is
 
@@ -161,7 +161,7 @@ current_more i seen middle last one two = record {
   gone = goes_on i (log_of seen) (log_of middle) (log_of last) one.made two.made one.gone two.gone;
 }
 
-current_here : (i : ℕ) (seen : List Event) → IsReplayed (log_of seen) → IsCurrent i seen seen
+pub current_here : (i : ℕ) (seen : List Event) → IsReplayed (log_of seen) → IsCurrent i seen seen
 current_here i seen replayed = record {
   made = [];
   reads = All-nil IsRead;
@@ -575,10 +575,10 @@ module _
 -- ---- what is current in the lanes
 
 -- the logs, of which one lane's is another
-abbrev with_current : (ℕ → List Event) → ℕ → List Event → ℕ → List Event
+abbrev pub with_current : (ℕ → List Event) → ℕ → List Event → ℕ → List Event
 with_current current lane whole i = if i == lane then whole else current i
 
-with-here :
+pub with-here :
     (current : ℕ → List Event) (lane : ℕ) (whole : List Event)
     → with_current current lane whole lane ≡ whole
 with-here current lane whole = by (decided lane lane)
@@ -587,7 +587,7 @@ with-here current lane whole = by (decided lane lane)
     by (inl (_, is)) = ap (λ b. if b then whole else current lane) is
     by (inr (not, _)) = absurd (not refl)
 
-with-else :
+pub with-else :
     (current : ℕ → List Event) (lane i : ℕ) (whole : List Event) → i ≢ lane
     → with_current current lane whole i ≡ current i
 with-else current lane i whole other = by (decided i lane)

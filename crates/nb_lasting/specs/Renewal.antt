@@ -50,3 +50,38 @@ abbrev pub AreRenewed :
 AreRenewed m filled past n knew after result =
     IfOk result (λ done. AreAnew n knew after)
     × IfErr result (λ fault. AreAsBefore m filled past n knew after)
+
+-- ---- what the renewer's token holds
+
+-- It has the handles of the lanes below this number, in a list of its own.
+pub record HoldsBelow (n : ℕ) (me : Me (Option HandleOf) View) (handles : List HandleOf) :
+    Type 0 where
+  pub knew : ℕ → List Event
+  pub epoch : EpochIn
+  pub outs : me.0.outs ≡ down knew n
+  pub slots : me.1 ≡ blanks n
+  pub begun : 0 < n → (me.0.filled ≡ epoch.filled) × (me.0.past ≡ epoch.past)
+  pub held : AreHeld me.0.map me.0.filled me.0.past n knew handles
+
+-- It has them still, and they have called nothing but reads since.
+pub record CanDealBelow (n : ℕ) (me : Me (Option HandleOf) View) (handles : List HandleOf) :
+    Type 0 where
+  pub knew : ℕ → List Event
+  pub know : ℕ → List Event
+  pub outs : me.0.outs ≡ down knew n
+  pub slots : me.1 ≡ blanks n
+  pub held : AreHeld me.0.map me.0.filled me.0.past n know handles
+  pub current : (i : ℕ) → i < n → IsCurrent i (knew i) (know i)
+
+-- It has those of all lanes, and they are of a new map.
+pub record CanDealAnew (n : ℕ) (me : Me (Option HandleOf) View) (handles : List HandleOf) :
+    Type 0 where
+  pub knew : ℕ → List Event
+  pub outs : me.0.outs ≡ down knew n
+  pub slots : me.1 ≡ blanks n
+  pub anew : AreAnew n knew handles
+
+-- a token that has no lane's handle
+pub record IsIdle (me : Me (Option HandleOf) View) : Type 0 where
+  pub outs : me.0.outs ≡ []
+  pub slots : me.1 ≡ []

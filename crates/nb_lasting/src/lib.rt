@@ -8,6 +8,7 @@ mod gathered;
 mod lasting;
 pub mod laws;
 mod present;
+mod renewing;
 mod shapes;
 mod shared;
 #[cfg(test)]

@@ -1,0 +1,66 @@
+//! The map is made anew while threads call: who does it takes all lanes' handles as they come home.
+ghost use Rattle.std.specs.Prelude.{[], IfErr, IfOk, ◌∷◌, ◌++◌, ◌+◌, ◌<◌, ◌≡◌, length, vec_capacity};
+ghost use Rattle.nb_lasting.specs.Renewal.{CanDealAnew, CanDealBelow, HoldsBelow, IsIdle};
+
+use crate::gathered::parted_anew;
+use crate::shared::{Row, Token, give_anew, give_back, hold};
+use nb_core::{OutOfMemory, Shape};
+use nb_map::{Handle, RenewFault};
+use std::alloc::Global;
+use std::sync::Wait;
+
+/// Takes a lane's handle out of its slot, to those of the lanes below.
+fn gather<R: Wait>(
+    rt: &R,
+    row: &Row,
+    token: &mut Token,
+    handles: &mut Vec<Handle>,
+    lane: usize,
+)
+    requires table { token.old.table_id ≡ row.now.table_id }
+    requires lane { lane < row.now.key.seats }
+    requires words { row.now.table_id.words ≡ row.now.key.seats }
+    requires room { length handles.old.items < vec_capacity handles.old }
+    requires holds { HoldsBelow lane token.old.me handles.old.items }
+    ensures table { token.new.table_id ≡ token.old.table_id }
+    ensures room { vec_capacity handles.new ≡ vec_capacity handles.old }
+    ensures holds { HoldsBelow (lane + 1) token.new.me handles.new.items }
+{
+    hold(rt, row, token, lane);
+    let Some(handle) = row.exchange(token, lane, None) else {
+        unreachable!();
+    };
+    handles.push_reserved(handle);
+}
+
+/// Puts the last handle back into its slot.
+fn deal(row: &Row, token: &mut Token, handles: &mut Vec<Handle>, lane: usize)
+    requires table { token.old.table_id ≡ row.now.table_id }
+    requires lane { lane < row.now.key.seats }
+    requires words { row.now.table_id.words ≡ row.now.key.seats }
+    requires holds { CanDealBelow (lane + 1) token.old.me handles.old.items }
+    ensures table { token.new.table_id ≡ token.old.table_id }
+    ensures holds { CanDealBelow lane token.new.me handles.new.items }
+{
+    let Some(handle) = handles.pop() else {
+        unreachable!();
+    };
+    row.exchange(token, lane, Some(handle));
+    give_back(row, token, lane);
+}
+
+/// The same of the last lane of all, where the handles are those of a new map.
+fn deal_anew(row: &Row, token: &mut Token, handles: &mut Vec<Handle>, lane: usize)
+    requires table { token.old.table_id ≡ row.now.table_id }
+    requires lane { lane + 1 ≡ row.now.key.seats }
+    requires words { row.now.table_id.words ≡ row.now.key.seats }
+    requires holds { CanDealAnew (lane + 1) token.old.me handles.old.items }
+    ensures table { token.new.table_id ≡ token.old.table_id }
+    ensures holds { CanDealBelow lane token.new.me handles.new.items }
+{
+    let Some(handle) = handles.pop() else {
+        unreachable!();
+    };
+    row.exchange(token, lane, Some(handle));
+    give_anew(row, token, lane);
+}
