@@ -7,13 +7,14 @@ use Rattle.nb_core.specs.Log.{log_of}
 use Rattle.nb_core.specs.Plans.{Plan}
 use Rattle.nb_core.specs.declared.events.Event.{Event}
 use Rattle.nb_map.specs.Handles.{HandleOf}
+use Rattle.nb_map.specs.Logs.{log}
 use Rattle.nb_map.specs.Maps.{MapOf}
 use Rattle.nb_lasting.proofs.Calling.{taken-is}
-use Rattle.nb_lasting.proofs.Sharing.{Same, current_here, decided, times_else, times_here, with-else, with-here, with_current}
+use Rattle.nb_lasting.proofs.Sharing.{Same, anew-log, current_here, decided, times_else, times_here, with-else, with-here, with_current}
 use Rattle.nb_lasting.specs.Epochs.{HasGoneOnBy}
 use Rattle.nb_lasting.specs.Holding.{CanDeal, CanRenew}
 use Rattle.nb_lasting.specs.Renewal.{AreAnew, AreHeld, CanDealAnew, CanDealBelow, HoldsBelow, IsIdle, blanks, down}
-use Rattle.nb_lasting.specs.Shared.{EpochIn, Has, HasBegunAnew, HasDealt, HasTaken, Holds, HoldsAnew, IsCurrent, IsLane, KnowsIn, all_knew, given, given_anew, map_in, rest_outs, times}
+use Rattle.nb_lasting.specs.Shared.{EpochIn, Has, HasBegunAnew, HasDealt, HasTaken, Holds, HoldsAnew, IsCurrent, IsLane, KnowsIn, all_knew, given, given_anew, log_in, map_in, rest_outs, times}
 use Rattle.nb_lasting.specs.declared.shared.Out.{Out}
 use Rattle.nb_lasting.specs.declared.shared.View.{View}
 
@@ -288,4 +289,41 @@ module _
               subst (λ (l : List Event). HasGoneOnBy out.lane (log_of l) (log_of can.anew.next.past) [])
               (sym is-out.1) (can.anew.met out.lane is-out.0);
         };
+      }
+
+  pub begun :
+      CanDealAnew (lane + 1) me before → HasBegunAnew new after → CanDealBelow lane after handles
+  begun can gone =
+      let next = gone.0 in
+      let both = popped lane can.anew.shared can.anew.next.filled can.anew.next.past
+      (λ _. can.anew.next.past) handles before handle popped-is can.anew.held in
+      let same : log handle.seat ≡ log_of next.filled =
+      ap log_in (sym new-slot) ∙ gone.1 in
+      let map : after.0.map ≡ can.anew.shared =
+      ap (λ (v : View). v.map) gone.3 ∙ ap (map_in new.0.map) new-slot ∙ both.1.0.map in
+      let filled : after.0.filled ≡ next.filled = ap (λ (v : View). v.filled) gone.3 in
+      let past : after.0.past ≡ next.past = ap (λ (v : View). v.past) gone.3 in
+      record {
+        knew = λ _. next.past;
+        know = λ _. next.past;
+        outs = ap (λ (v : View). v.outs) gone.3
+            ∙ ap (λ (outs : List Out). all_knew next.past (rest_outs outs)) (outs-is can.knew can.outs)
+            ∙ down_knew next.past can.knew lane;
+        slots = slots-left can.slots gone.4;
+        held = record {
+          count = both.0.count;
+          each = λ i h at.
+              let one = both.0.each i h at in (
+                record { map = one.0.map ∙ sym map; number = one.0.number; alone = one.0.alone },
+                record {
+                  later = [];
+                  here = anew-log can.anew.next h.seat one.1
+                      ∙ sym (anew-log can.anew.next handle.seat both.1.1) ∙ same
+                      ∙ sym (ap log_of filled);
+                  is = sym (ap log_of past);
+                  replayed = next.replayed;
+                },
+              );
+        };
+        current = λ i less. current_here i next.past next.replayed;
       }

@@ -6,7 +6,7 @@ use lib.ListN.{get_elem?}
 use prog.Atomic.{either}
 use Rattle.std.specs.Prelude.{◌-◌, None, Option, map, replicate, slice_get, take, unwrap_or}
 use Rattle.std.proofs.lemmas.Bool.Decides.{nat_tests}
-use Rattle.std.proofs.lemmas.List.{append_assoc, get_or-replicate, get_or-set_other, get_or-set_same, length-append, length-map, length-replicate, length-set, set-get_or}
+use Rattle.std.proofs.lemmas.List.{append_cancel_right, get_or-replicate, get_or-set_other, get_or-set_same, length-append, length-map, length-replicate, length-set, set-get_or}
 use Rattle.std.proofs.lemmas.List.Elements.{All-append, All-nil}
 use Rattle.atomic_table.proofs.Lists.{at_set, at_snoc, exchanged, set_again, set_else, set_here}
 use Rattle.atomic_table.specs.Table.{Act, Allows, Me, Splits, Step, Valid, carried_after, chain, gives, keeps, opening, rest, step, stepped, takes}
@@ -882,6 +882,15 @@ deal_allowed p slots id me lane knew whole handle within holds gone =
       (ap (λ outs. given me.0 (rest_outs outs) me.0.seen) (sym holds.view), refl),
     ))
 
+-- who knows just what its map went on from has the log that filled it
+pub anew-log :
+    (next : EpochIn) (seat : SeatOf) → KnowsIn next.filled next.past seat next.past
+    → log seat ≡ log_of next.filled
+anew-log next seat knows =
+    let none-later : knows.later ≡ [] =
+    append_cancel_right knows.later [] (log_of next.past) (sym knows.is) in
+    knows.here ∙ ap (λ l. l ++ log_of next.filled) none-later
+
 pub anew_allowed :
     (p : Plan) (slots id : ℕ) (me : Me (Option HandleOf) View) (lane : ℕ) (knew : List Event)
     (handle : HandleOf) (next : EpochIn) → lane < p.seats → HoldsAnew p lane knew handle next me
@@ -897,6 +906,7 @@ anew_allowed p slots id me lane knew handle next within holds =
       holds.number holds.alone holds.knows holds.all holds.met,
       (
         next,
+        anew-log next handle.seat holds.knows,
         holds.met,
         ap (λ outs. given_anew me.0 (rest_outs outs) handle.map next.filled next.past)
             (sym holds.view),

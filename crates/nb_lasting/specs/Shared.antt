@@ -215,6 +215,12 @@ map_in m [] = m
 map_in m ((lane, None) ∷ slots) = m
 map_in m ((lane, Some handle) ∷ slots) = handle.map
 
+-- the log of that handle
+abbrev pub log_in : List (ℕ × Option HandleOf) → List Entry
+log_in [] = []
+log_in ((lane, None) ∷ slots) = []
+log_in ((lane, Some handle) ∷ slots) = log handle.seat
+
 -- the lanes that are out but for the one taken last
 abbrev pub rest_outs : List Out → List Out
 rest_outs [] = []
@@ -243,7 +249,7 @@ Deals step before found after = HasDealt before after
 -- knew
 abbrev pub HasBegunAnew : (before after : Me (Option HandleOf) View) → Type 0
 HasBegunAnew before after =
-    (next : EpochIn)
+    (next : EpochIn) × (log_in before.1 ≡ log_of next.filled)
     × ((out : Out) → Has out before.0.outs
     → HasGoneOnBy out.lane (log_of out.knew) (log_of next.past) [])
     × (after.0 ≡ given_anew before.0 (rest_outs before.0.outs) (map_in before.0.map before.1) next.filled next.past)

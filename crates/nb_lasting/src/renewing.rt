@@ -1,5 +1,5 @@
 //! The map is made anew while threads call: who does it takes all lanes' handles as they come home.
-ghost use Rattle.std.specs.Prelude.{[], IfErr, IfOk, ◌∷◌, ◌++◌, ◌+◌, ◌<◌, ◌≡◌, length, vec_capacity};
+ghost use Rattle.std.specs.Prelude.{IfOk, OnErr, ◌+◌, ◌<◌, ◌≤◌, ◌≡◌, length, vec_capacity};
 ghost use Rattle.nb_lasting.specs.Renewal.{CanDealAnew, CanDealBelow, HoldsBelow, IsIdle};
 
 use crate::gathered::parted_anew;
@@ -63,4 +63,43 @@ fn deal_anew(row: &Row, token: &mut Token, handles: &mut Vec<Handle>, lane: usiz
     };
     row.exchange(token, lane, Some(handle));
     give_anew(row, token, lane);
+}
+
+/// Takes the handles of all lanes.
+fn gather_all<R: Wait>(
+    rt: &R,
+    row: &Row,
+    token: &mut Token,
+    alloc: Global,
+    seats: usize,
+) -> Result<Vec<Handle>, OutOfMemory>
+    requires table { token.old.table_id ≡ row.now.table_id }
+    requires seats { seats ≡ row.now.key.seats }
+    requires words { row.now.table_id.words ≡ row.now.key.seats }
+    requires idle { IsIdle token.old.me }
+    ensures table { token.new.table_id ≡ token.old.table_id }
+    ensures holds { IfOk result (λ handles. HoldsBelow seats token.new.me handles.items) }
+    ensures kept { OnErr result (token.new.me ≡ token.old.me) }
+{
+    let mut handles = Vec::with_capacity(alloc, seats)?;
+    for lane in 0..seats {
+        gather(rt, row, token, &mut handles, lane);
+    }
+    Ok(handles)
+}
+
+/// Puts the handles of all lanes back.
+fn deal_all(row: &Row, token: &mut Token, handles: Vec<Handle>)
+    requires table { token.old.table_id ≡ row.now.table_id }
+    requires lanes { length handles.items ≤ row.now.key.seats }
+    requires words { row.now.table_id.words ≡ row.now.key.seats }
+    requires holds { CanDealBelow (length handles.items) token.old.me handles.items }
+    ensures table { token.new.table_id ≡ token.old.table_id }
+    ensures idle { IsIdle token.new.me }
+{
+    let mut handles = handles;
+    for _ in 0..handles.len() {
+        let lane = handles.len() - 1;
+        deal(row, token, &mut handles, lane);
+    }
 }
