@@ -1,6 +1,6 @@
 -- What a renewer's token holds, from step to step.
 use Rattle.std.proofs.Common.{◌≡◌, ◌≢◌, ◌∙◌, ◌+◌, ◌++◌, ◌<◌, ◌≤◌, ◌==◌, ◌⊎◌, ℕ, zero, suc, Bool, true, false, if◌then◌else◌, List, [], ◌∷◌, Some, ap, inl, inr, length, length-append, refl, slice_get, subst, sym, arith}
-use Rattle.std.specs.Prelude.{None, Option, unwrap_or}
+use Rattle.std.specs.Prelude.{Err, None, Ok, Option, Result, ⊤, is_ok, unwrap_or}
 use Rattle.std.proofs.lemmas.Option.{slice_get_within}
 use Rattle.atomic_table.specs.Table.{Me, rest}
 use Rattle.nb_core.specs.Log.{log_of}
@@ -13,7 +13,10 @@ use Rattle.nb_lasting.proofs.Calling.{taken-is}
 use Rattle.nb_lasting.proofs.Sharing.{Same, anew-log, current_here, decided, times_else, times_here, with-else, with-here, with_current}
 use Rattle.nb_lasting.specs.Epochs.{HasGoneOnBy}
 use Rattle.nb_lasting.specs.Holding.{CanDeal, CanRenew}
-use Rattle.nb_lasting.specs.Renewal.{AreAnew, AreHeld, CanDealAnew, CanDealBelow, HoldsBelow, IsIdle, blanks, down}
+use Rattle.nb_map.specs.declared.faults.RenewFault.{RenewFault}
+use Rattle.nb_lasting.proofs.Renewed.{all-from, renewed-all}
+use Rattle.nb_lasting.specs.Gathered.{AreSingle, IsPartedAnew, IsSingle}
+use Rattle.nb_lasting.specs.Renewal.{AreAnew, AreHeld, AreRenewed, CanDealAnew, CanDealBelow, HoldsBelow, IsIdle, blanks, down}
 use Rattle.nb_lasting.specs.Shared.{EpochIn, Has, HasBegunAnew, HasDealt, HasTaken, Holds, HoldsAnew, IsCurrent, IsLane, KnowsIn, all_knew, given, given_anew, log_in, map_in, rest_outs, times}
 use Rattle.nb_lasting.specs.declared.shared.Out.{Out}
 use Rattle.nb_lasting.specs.declared.shared.View.{View}
@@ -327,3 +330,94 @@ module _
         };
         current = λ i less. current_here i next.past next.replayed;
       }
+
+-- ---- at the beginning, and at the end
+
+pub holds-none :
+    (me : Me (Option HandleOf) View) (handles : List HandleOf) → handles ≡ [] → IsIdle me
+    → HoldsBelow 0 me handles
+holds-none me handles none idle = record {
+  knew = λ _. [];
+  epoch = record { filled = []; past = []; replayed = tt; same = refl };
+  outs = idle.outs;
+  slots = idle.slots;
+  begun = λ some. absurd (omega (arith, some));
+  held = record {
+    count = ap length none;
+    each = λ i h at. absurd (omega (arith, slice_get_within handles i h at, ap length none));
+  };
+}
+
+pub dealt-all :
+    (n : ℕ) (me : Me (Option HandleOf) View) (handles : List HandleOf) → n ≡ 0
+    → CanDealBelow n me handles → IsIdle me
+dealt-all n me handles none can = record {
+  outs = can.outs ∙ ap (down can.knew) none;
+  slots = can.slots ∙ ap blanks none;
+}
+
+-- ---- all handles are made one
+
+pub all-single :
+    (n : ℕ) (me : Me (Option HandleOf) View) (handles : List HandleOf) → 1 ≤ n → n ≤ 256
+    → HoldsBelow n me handles → AreSingle handles
+all-single n me handles some few holds = record {
+  shared = me.0.map;
+  each = all-from (IsSingle me.0.map) handles (λ i h at.
+      let one = (holds.held.each i h at).0 in
+      record { map = one.map; alone = one.alone });
+  some = omega (arith, some, holds.held.count);
+  few = omega (arith, few, holds.held.count);
+}
+
+module _
+    (p : Plan) (me : Me (Option HandleOf) View) (before after : List HandleOf) (some : 1 ≤ p.seats)
+    (few : p.seats ≤ 256) (holds : HoldsBelow p.seats me before) where
+  -- what a renewal makes of them, in the words of the token
+  renewed-by :
+      (result : Result ⊤ RenewFault) → IsPartedAnew p before after result
+      → AreRenewed me.0.map me.0.filled me.0.past p.seats holds.knew after result
+  unfolding all-single
+  renewed-by result is =
+      let begun = holds.begun (omega (arith, some)) in
+      subst (λ (f : List Event). AreRenewed me.0.map f me.0.past p.seats holds.knew after result)
+      (sym begun.0)
+      (subst (λ (l : List Event). AreRenewed me.0.map holds.epoch.filled l p.seats holds.knew after
+      result) (sym begun.1)
+      (renewed-all p me.0.map holds.epoch holds.knew before after
+      (subst (λ (f : List Event). AreHeld me.0.map f holds.epoch.past p.seats holds.knew before) begun.0
+      (subst (λ (l : List Event). AreHeld me.0.map me.0.filled l p.seats holds.knew before) begun.1
+      holds.held))
+      (all-single p.seats me before some few holds) result refl is))
+
+  pub deals :
+      (result : Result ⊤ RenewFault) → IsPartedAnew p before after result
+      → (length after ≡ p.seats)
+      × (is_ok result ≡ true → CanDealAnew (length after) me after)
+      × (is_ok result ≡ false → CanDealBelow (length after) me after)
+  deals (Ok done) is =
+      let anew = (renewed-by (Ok done) is).0 in
+      let count = anew.held.count in (
+        count,
+        (λ good. subst (λ n. CanDealAnew n me after) (sym count) (record {
+          knew = holds.knew;
+          outs = holds.outs;
+          slots = holds.slots;
+          anew = anew;
+        })),
+        (λ bad. absurd cc),
+      )
+  deals (Err fault) is =
+      let as-before = (renewed-by (Err fault) is).1 in
+      let count = as-before.held.count in (
+        count,
+        (λ good. absurd cc),
+        (λ bad. subst (λ n. CanDealBelow n me after) (sym count) (record {
+          knew = holds.knew;
+          know = as-before.know;
+          outs = holds.outs;
+          slots = holds.slots;
+          held = as-before.held;
+          current = as-before.current;
+        })),
+      )

@@ -35,7 +35,7 @@ at-all P [] i x all at = absurd (omega (arith, slice_get_within [] i x at))
 at-all P (y ∷ ys) zero x all at = subst P (some-same y x at) (All-head P y ys all)
 at-all P (y ∷ ys) (suc i) x all at = at-all P ys i x (All-tail P y ys all) at
 
-all-from : {X : Type 0} (P : X → Type 0) (xs : List X)
+pub all-from : {X : Type 0} (P : X → Type 0) (xs : List X)
     → ((i : ℕ) (x : X) → slice_get xs i ≡ Some x → P x)
     → All P xs
 all-from P [] each = All-nil P

@@ -85,3 +85,9 @@ pub record CanDealAnew (n : ℕ) (me : Me (Option HandleOf) View) (handles : Lis
 pub record IsIdle (me : Me (Option HandleOf) View) : Type 0 where
   pub outs : me.0.outs ≡ []
   pub slots : me.1 ≡ []
+
+-- the token's guest has seen what it had seen, and makes as many guests
+pub record IsSameGuest (before after : View) : Type 0 where
+  pub guest : after.guest ≡ before.guest
+  pub seen : after.seen ≡ before.seen
+  pub dealer : after.dealer ≡ before.dealer
