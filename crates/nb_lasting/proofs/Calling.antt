@@ -1,6 +1,6 @@
 -- What a guest's call does to what it knows.
 use Rattle.std.proofs.Common.{◌≡◌, ◌∙◌, ◌++◌, ℕ, List, [], ◌∷◌, All, Some, ap, refl, subst, sym}
-use Rattle.std.specs.Prelude.{None, Option, unwrap_or}
+use Rattle.std.specs.Prelude.{Err, None, Ok, Option, Result, unwrap_or}
 use Rattle.std.proofs.lemmas.List.{append_assoc}
 use Rattle.atomic_table.specs.Table.{Me, rest}
 use Rattle.nb_core.specs.Log.{Entry, IsReplayed, calls_of, log_of}
@@ -9,11 +9,14 @@ use Rattle.nb_core.specs.declared.calls.Reply.{Reply}
 use Rattle.nb_core.specs.declared.events.Event.{Event}
 use Rattle.nb_map.specs.Handles.{HandleOf, KeepsRest}
 use Rattle.nb_map.specs.Logs.{HasLogged, log}
-use Rattle.nb_map.specs.Maps.{SeatOf}
+use Rattle.nb_map.specs.Maps.{MapOf, SeatOf}
+use Rattle.nb_map.specs.Progress.{Unlimited}
+use Rattle.nb_map.specs.Promises.{HasWritten, found_or_full}
+use Rattle.nb_map.specs.declared.faults.Full.{Full}
 use Rattle.nb_lasting.proofs.Epochs.{goes_on, replays}
 use Rattle.nb_lasting.proofs.Sharing.{known-of, log-as-events}
 use Rattle.nb_lasting.specs.Epochs.{HasGoneOnBy}
-use Rattle.nb_lasting.specs.Holding.{CanGive, HasCalledIn, IsIdleGuest}
+use Rattle.nb_lasting.specs.Holding.{CanGive, HasCalledIn, HasPutIn, IsIdleGuest}
 use Rattle.nb_lasting.specs.Shared.{EpochIn, HasGiven, HasTaken, Holds, IsLane, KnowsIn, as_events, known_in, known_of, rest_outs}
 use Rattle.nb_lasting.specs.declared.shared.View.{View}
 
@@ -151,3 +154,20 @@ pub taken-is :
     → taken.handle ≡ handle
 taken-is lane before mid taken y handle found is =
     ap (λ o. unwrap_or o handle) (ap head_of (sym taken.slots ∙ found) ∙ is)
+
+-- ---- a put
+
+-- its calls, and what they tell of the answer
+pub put-logged :
+    (m : MapOf) (call : Call) (before after : SeatOf) (result : Result (Option ℕ) Full)
+    → HasWritten m call before after Unlimited (found_or_full result)
+    → (made : List (Call × Reply)) × HasLogged before after made
+    × ((lane : ℕ) (old new : View) → HasCalledIn lane old new made → HasPutIn lane old new call result)
+put-logged m call before after (Ok found) wrote =
+    let answered = wrote.answered in (
+      (call, answered.0) ∷ [],
+      answered.2,
+      λ lane old new called. (answered.0, answered.1, called),
+    )
+put-logged m call before after (Err full) wrote =
+    ([], wrote.answered.unmade, λ lane old new called. called)

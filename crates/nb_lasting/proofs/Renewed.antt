@@ -13,7 +13,7 @@ use Rattle.nb_map.specs.Entries.{HasOnlyRead}
 use Rattle.nb_map.specs.Bulk.{whole_walk_steps}
 use Rattle.nb_map.specs.Handles.{HandleOf, IsSameMap, handle_on, seats_of}
 use Rattle.nb_map.specs.Logs.{log}
-use Rattle.nb_map.specs.Maps.{MapOf, SeatOf}
+use Rattle.nb_map.specs.Maps.{MapOf, SeatOf, new_seat, new_seats}
 use Rattle.nb_map.specs.Renewing.{HasRenewed, IsKept}
 use Rattle.nb_map.specs.declared.faults.RenewFault.{RenewFault}
 use Rattle.nb_lasting.proofs.Calling.{known-then}
@@ -313,3 +313,42 @@ module _
     subst (AreAsBefore m e.filled e.past p.seats knew) (sym is.parted)
         (as-before is.joined is.whole (is.one_map single ∙ one) is.seats is.kept),
   )
+
+-- ---- a new map
+
+module _
+    (whole : HandleOf) (n : ℕ) (handles : List HandleOf)
+    (seats : seats_of whole ≡ new_seats whole.map n)
+    (parted : handles ≡ map (handle_on whole.map) (seats_of whole)) where
+  pub new-count : length handles ≡ n
+  new-count =
+      ap length parted ∙ length-map (seats_of whole) (handle_on whole.map) ∙ ap length seats
+      ∙ length-map (range_with_len 0 n) (new_seat whole.map) ∙ length-range_with_len 0 n
+
+  pub new-lanes :
+      (i : ℕ) (h : HandleOf) → slice_get handles i ≡ Some h
+      → IsLane whole.map i h × (log h.seat ≡ [])
+  new-lanes i h at =
+      let s = mapped-at whole.map (seats_of whole) i h (ap (λ xs. slice_get xs i) (sym parted) ∙ at) in
+      let new = new-at (range_with_len 0 n) i s.0 (ap (λ xs. slice_get xs i) (sym seats) ∙ s.1) in
+      let below : i < n =
+      omega (arith, slice_get_within (range_with_len 0 n) i new.0 new.1, length-range_with_len 0 n) in
+      let number : new.0 ≡ i =
+      (let a = get_or_from_slice_get (range_with_len 0 n) i new.0 0 new.1 in
+      let b = get_or-range_with_len 0 n i 0 below in
+      omega (arith, a, b)) in
+      (
+        record {
+          map = ap (λ (x : HandleOf). x.map) s.2;
+          number = ap (λ (x : HandleOf). x.seat.chain.number) s.2
+              ∙ ap (λ (x : SeatOf). x.chain.number) new.2 ∙ number;
+          alone = ap (λ (x : HandleOf). x.reserve) s.2;
+        },
+        ap (λ (x : HandleOf). log x.seat) s.2 ∙ ap log new.2,
+      )
+    where
+      new-at : (ns : List ℕ) (i : ℕ) (s : SeatOf) → slice_get (map (new_seat whole.map) ns) i ≡ Some s
+          → (k : ℕ) × (slice_get ns i ≡ Some k) × (s ≡ new_seat whole.map k)
+      new-at [] i s at = absurd (omega (arith, slice_get_within [] i s at))
+      new-at (k ∷ ns) zero s at = (k, refl, sym (some-same (new_seat whole.map k) s at))
+      new-at (k ∷ ns) (suc i) s at = new-at ns i s at

@@ -1,5 +1,5 @@
 -- What a token has to hold that gives a lane's handle back.
-use Rattle.std.specs.Prelude.{◌≡◌, ◌++◌, ℕ, All, Some, Option, List, []}
+use Rattle.std.specs.Prelude.{◌≡◌, ◌++◌, ◌∷◌, ℕ, All, Err, Ok, Option, Result, Some, List, []}
 use Rattle.atomic_table.specs.Table.{Me}
 use Rattle.nb_core.specs.Plans.{Plan}
 use Rattle.nb_core.specs.Log.{log_of}
@@ -8,6 +8,7 @@ use Rattle.nb_core.specs.declared.calls.Reply.{Reply}
 use Rattle.nb_core.specs.declared.events.Event.{Event}
 use Rattle.nb_map.specs.Entries.{IsRead}
 use Rattle.nb_map.specs.Handles.{HandleOf}
+use Rattle.nb_map.specs.declared.faults.Full.{Full}
 use Rattle.nb_lasting.specs.Epochs.{HasGoneOnBy}
 use Rattle.nb_lasting.specs.Shared.{EpochIn, Holds, HoldsAnew, IsCurrent}
 use Rattle.nb_lasting.specs.declared.shared.View.{View}
@@ -50,3 +51,10 @@ pub record HasCalledIn (lane : ℕ) (before after : View) (made : List (Call × 
   pub reads : List (Call × Reply)
   pub are_reads : All IsRead reads
   pub gone : HasGoneOnBy lane (log_of before.seen) (log_of after.seen) (made ++ reads)
+
+-- what a put through a lane promises, which may be refused as full: then the guest has called nothing
+abbrev pub HasPutIn :
+    (lane : ℕ) → (before after : View) → Call → Result (Option ℕ) Full → Type 0
+HasPutIn lane before after call (Ok found) =
+    (reply : Reply) × (reply.before ≡ found) × HasCalledIn lane before after ((call, reply) ∷ [])
+HasPutIn lane before after call (Err full) = HasCalledIn lane before after []

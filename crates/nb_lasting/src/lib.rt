@@ -7,6 +7,7 @@ mod faults;
 mod gathered;
 mod lasting;
 pub mod laws;
+mod opening;
 mod present;
 mod renewing;
 mod shapes;

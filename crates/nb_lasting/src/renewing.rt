@@ -144,7 +144,7 @@ pub(crate) fn renew_through<R: Wait>(
 ) -> Result<(), RenewFault>
     requires table { token.old.table_id ≡ row.now.table_id }
     requires words { row.now.table_id.words ≡ row.now.key.seats }
-    requires shape { shape ≡ row.now.key }
+    requires shape { shape.seats ≡ row.now.key.seats }
     requires idle { IsIdle token.old.me }
     ensures table { token.new.table_id ≡ token.old.table_id }
     ensures guest { IsSameGuest token.old.me.0 token.new.me.0 }

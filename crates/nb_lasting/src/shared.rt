@@ -2,12 +2,13 @@
 ghost use Rattle.std.specs.Prelude.{[], Some, ℕ, ◌∷◌, ◌≡◌, ◌<◌, true, false};
 ghost use Rattle.nb_core.specs.Log.{reply_at};
 ghost use Rattle.nb_core.specs.declared.calls.Call.TheVariants as call;
+ghost use Rattle.nb_map.specs.NamedCalls.{put_of};
 ghost use Rattle.nb_lasting.specs.Shared.{HasBegunAnew, HasDealt, HasGiven, HasTaken, dealer_left, new_guest};
-ghost use Rattle.nb_lasting.specs.Holding.{CanDeal, CanGive, CanRenew, HasCalledIn, IsIdleGuest};
+ghost use Rattle.nb_lasting.specs.Holding.{CanDeal, CanGive, CanRenew, HasCalledIn, HasPutIn, IsIdleGuest};
 
 use atomic_table::{Play, Seat, Shared, Split, TableRule};
 use nb_core::{Event, Key, Num, Shape};
-use nb_map::{Handle, Map};
+use nb_map::{Full, Handle, Map};
 use std::collections::LinkedList;
 use std::sync::Wait;
 use std::thread;
@@ -193,6 +194,32 @@ pub(crate) fn get_through<R: Wait>(
         unreachable!();
     };
     let found = handle.get(key);
+    give(row, token, lane);
+    found
+}
+
+/// Puts a number at a key through a lane, and answers what was there.
+pub(crate) fn put_through<R: Wait>(
+    rt: &R,
+    row: &Row,
+    token: &mut Token,
+    lane: usize,
+    entry: (Key, Num),
+) -> Result<Option<Num>, Full>
+    requires table { token.old.table_id ≡ row.now.table_id }
+    requires lane { lane < row.now.key.seats }
+    requires words { row.now.table_id.words ≡ row.now.key.seats }
+    requires slots { row.now.table_id.slots ≡ row.now.key.seats }
+    requires idle { IsIdleGuest lane token.old.me }
+    ensures table { token.new.table_id ≡ token.old.table_id }
+    ensures idle { IsIdleGuest lane token.new.me }
+    ensures called { HasPutIn lane token.old.me.0 token.new.me.0 (put_of entry.0 entry.1) result }
+{
+    hold(rt, row, token, lane);
+    let Some(handle) = token.slot_mut(row, lane) else {
+        unreachable!();
+    };
+    let found = handle.put(rt, entry.0, entry.1);
     give(row, token, lane);
     found
 }

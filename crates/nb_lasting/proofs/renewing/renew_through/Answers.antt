@@ -1,5 +1,4 @@
 use Rattle.std.proofs.Common.{◌≡◌, ◌∙◌, ◌≤◌, ap, subst, sym, true, false, arith}
-use Rattle.nb_core.specs.Plans.{Plan}
 use Rattle.nb_lasting.specs.Renewal.{HoldsBelow}
 use Rattle.nb_lasting.proofs.Dealt.{all-single, deals}
 use Rattle.nb_lasting.proofs.renewing.renew_through.Goals as goal
@@ -22,8 +21,7 @@ deal_renewed-requires g c =
         (subst (λ n. HoldsBelow n c.gather_all.new.token.me c.in_ok-handles.handles.items)
         c.seats-seats.ensures.number c.in_ok-handles.ensures.holds)
         c.parted_anew-handles.result.1 c.parted_anew-handles.ensures in
-    let seats : c.args.shape.seats ≡ c.args.row.now.key.seats =
-    ap (λ (p : Plan). p.seats) c.requires.shape in
+    let seats : c.args.shape.seats ≡ c.args.row.now.key.seats = c.requires.shape in
     record {
       table = c.gather_all.ensures.table ∙ c.requires.table;
       lanes = done.0 ∙ seats;
