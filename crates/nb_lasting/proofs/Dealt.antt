@@ -145,11 +145,15 @@ gathered lane before after handles handle new holds taken found is = record {
         by (inl old) =
             let one = holds.held.each i h old in
             let below = slice_get_within handles i h old in
-            let some-lane : before.0.outs ≢ [] = λ none-held. absurd (omega (arith, below,
-            holds.held.count, ap length (sym holds.outs ∙ none-held), down_long holds.knew lane)) in
+            let some-lane : before.0.outs ≢ [] = λ none-held. absurd (omega (
+              arith,
+              below,
+              holds.held.count,
+              ap length (sym holds.outs ∙ none-held),
+              down_long holds.knew lane,
+            )) in
             let base = taken.same some-lane in
-            let elsewhere : i ≢ lane = λ at-lane. absurd (omega (arith, at-lane, below, holds.held.count)) in
-            (
+            let elsewhere : i ≢ lane = λ at-lane. absurd (omega (arith, at-lane, below, holds.held.count)) in (
               record {
                 map = one.0.map ∙ sym base.0 ∙ sym (ap (λ (v : View). v.map) view);
                 number = one.0.number;
@@ -166,8 +170,7 @@ gathered lane before after handles handle new holds taken found is = record {
             let to : taken.handle ≡ h = same ∙ is-handle in
             let here : i ≡ lane = omega (arith, is-last, holds.held.count) in
             subst (λ n. Goal n h) (sym here)
-            (subst (Goal lane) to
-            (
+            (subst (Goal lane) to (
               record {
                 map = taken.one.map ∙ sym (ap (λ (v : View). v.map) view);
                 number = taken.one.number;
@@ -193,8 +196,7 @@ popped lane m filled past know handles before handle is held =
     let count : length handles ≡ lane = omega (arith, long, ap length is, held.count) in
     let at-last : slice_get before lane ≡ Some handle =
     ap (λ xs. slice_get xs lane) is
-    ∙ subst (λ n. slice_get (handles ++ handle ∷ []) n ≡ Some handle) count (snoc_last handles handle) in
-    (
+    ∙ subst (λ n. slice_get (handles ++ handle ∷ []) n ≡ Some handle) count (snoc_last handles handle) in (
       record {
         count = count;
         each = λ i h at. held.each i h (ap (λ xs. slice_get xs i) is ∙ snoc_at handles handle i h at);

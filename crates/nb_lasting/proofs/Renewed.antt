@@ -160,8 +160,7 @@ module _
           let s = mapped-at whole.map (seats_of whole) i h at in
           let knows = at-all (λ seat. Knows step.0 seat step.0.past) (seats_of whole) i s.0 step.2 s.1 in
           subst (λ (x : HandleOf). IsLane whole.map i x
-          × KnowsIn next.filled next.past x.seat next.past) (sym s.2)
-          (
+          × KnowsIn next.filled next.past x.seat next.past) (sym s.2) (
             record {
               map = refl;
               number = number-at (seats_of whole) p.seats i s.0 numbered s.1;
@@ -210,8 +209,7 @@ module _
           let at-seat : slice_get (seats_in before) i ≡ Some s.0 =
           ap (λ xs. slice_get xs i) (sym (ap seats_of same ∙ seats)) ∙ s.1 in
           let was = handle-at before i s.0 at-seat in
-          let each = held.each i was.0 was.1 in
-          (
+          let each = held.each i was.0 was.1 in (
             record {
               map = ap (λ (x : HandleOf). x.map) s.2 ∙ ap (λ (x : HandleOf). x.map) same ∙ one;
               number = ap (λ (x : HandleOf). x.seat.chain.number) s.2
@@ -244,8 +242,7 @@ module _
           ∙ length-map before (λ (h : HandleOf). h.seat) ∙ held.count;
       each = λ i h at.
           let s = mapped-at whole.map (seats_of whole) i h at in
-          let x = after-at i s.0 s.1 in
-          (
+          let x = after-at i s.0 s.1 in (
             record {
               map = ap (λ (x : HandleOf). x.map) s.2 ∙ same ∙ one;
               number = ap (λ (x : HandleOf). x.seat.chain.number) s.2 ∙ x.0;
@@ -257,8 +254,14 @@ module _
     };
     current = λ i below.
         let long : i < length (seats_of whole) =
-        omega (arith, below, held.count, length-zip (seats_of joined) (seats_of whole) reads,
-        ap length seats, length-map before (λ (h : HandleOf). h.seat)) in
+        omega (
+          arith,
+          below,
+          held.count,
+          length-zip (seats_of joined) (seats_of whole) reads,
+          ap length seats,
+          length-map before (λ (h : HandleOf). h.seat),
+        ) in
         (after-at i (get_or (seats_of whole) i whole.seat)
         (slice_get-get_or (seats_of whole) i whole.seat long)).2;
   }
@@ -287,8 +290,7 @@ module _
           let knows = known-then e was.0 s (knew i) read.made
           (subst (λ x. KnowsIn e.filled e.past x (knew i)) h.2 each.1) read.logged in
           let here : s ≡ get_or (seats_of whole) i whole.seat =
-          sym (get_or_from_slice_get (seats_of whole) i s whole.seat at) in
-          (
+          sym (get_or_from_slice_get (seats_of whole) i s whole.seat at) in (
             read.logged.number ∙ number,
             subst (λ x. KnowsIn e.filled e.past s (known_of e.filled e.past x)) here knows.0,
             record {
@@ -336,8 +338,7 @@ module _
       let number : new.0 ≡ i =
       (let a = get_or_from_slice_get (range_with_len 0 n) i new.0 0 new.1 in
       let b = get_or-range_with_len 0 n i 0 below in
-      omega (arith, a, b)) in
-      (
+      omega (arith, a, b)) in (
         record {
           map = ap (λ (x : HandleOf). x.map) s.2;
           number = ap (λ (x : HandleOf). x.seat.chain.number) s.2

@@ -475,18 +475,18 @@ module _
       (m : MapOf) (e : EpochIn) (current seen : ℕ → List Event)
       → IsLane m lane handle → KnowsIn e.filled e.past handle.seat (current lane)
       → ((i : ℕ) (y : Option HandleOf) → i ≢ lane → get_elem? s.homes i ≡ some (some y)
-          → (h : HandleOf) × (y ≡ Some h) × IsLane m i h
-          × KnowsIn e.filled e.past h.seat (current i))
+      → (h : HandleOf) × (y ≡ Some h) × IsLane m i h
+      × KnowsIn e.filled e.past h.seat (current i))
       → (w.outs ≢ [] → IsAt m e w)
       → ((other : ℕ) (u : View) → other ≢ id → get_elem? s.views other ≡ some u → u.outs ≢ []
-          → IsAt m e u)
+      → IsAt m e u)
       → ((out : Out) → Has out w.outs → current out.lane ≡ out.knew)
       → ((other : ℕ) (u : View) (out : Out) → other ≢ id → get_elem? s.views other ≡ some u
-          → Has out u.outs → current out.lane ≡ out.knew)
+      → Has out u.outs → current out.lane ≡ out.knew)
       → ((i : ℕ) → i < p.seats → IsCurrent i (seen i) (current i))
       → ((i : ℕ) → w.guest ≡ Some i → w.seen ≡ seen i)
       → ((other : ℕ) (u : View) (i : ℕ) → other ≢ id → get_elem? s.views other ≡ some u
-          → u.guest ≡ Some i → u.seen ≡ seen i)
+      → u.guest ≡ Some i → u.seen ≡ seen i)
       → ((i : ℕ) → rule.dealt ≤ i → seen i ≡ [])
       → IsOneLog p (stepped s lane 0 id ((lane, Some handle) ∷ more) w gives)
   back-keeps m e current seen one knows elsewhere mine-at away-at mine-knew away-knew goes mine-seen
@@ -643,7 +643,7 @@ module _
       → ((i : ℕ) → i < p.seats → IsCurrent i (seen i) (with_current rule.current lane whole i))
       → ((i : ℕ) → v.guest ≡ Some i → w-seen ≡ seen i)
       → ((other : ℕ) (u : View) (i : ℕ) → other ≢ id → get_elem? s.views other ≡ some u
-          → u.guest ≡ Some i → u.seen ≡ seen i)
+      → u.guest ≡ Some i → u.seen ≡ seen i)
       → ((i : ℕ) → rule.dealt ≤ i → seen i ≡ [])
       → IsOneLog p (stepped s lane 0 id ((lane, Some handle) ∷ more) (given v outs w-seen) gives)
   home-keeps w-seen seen goes mine away fresh =
@@ -770,8 +770,14 @@ module _
       let two = holders_two out.lane s.views id other v u differ at old in
       let below : out.lane < p.seats =
       omega (arith, there s.homes out.lane (omega (arith, again, two, rule.once out.lane)), rule.count) in
-      omega (arith, two, again, all out.lane below, rule.once out.lane,
-      at_most (get_elem? s.homes out.lane))
+      omega (
+        arith,
+        two,
+        again,
+        all out.lane below,
+        rule.once out.lane,
+        at_most (get_elem? s.homes out.lane),
+      )
 
   met-by : (i : ℕ) → i < p.seats → IsCurrent i (rule.seen i) next.past
   met-by i below =
@@ -859,10 +865,13 @@ give_allowed p slots id me lane knew whole handle within holds is-guest =
       gives,
       tt,
       give-keeps p s rule id me.0 lane knew (known_of me.0.filled me.0.past handle.seat) holds.outs
-      handle (rest me.1) at within holds.view holds.one
-      (known-of me.0.filled me.0.past handle.seat whole holds.knows).1 is-guest,
-      (ap (λ outs. given me.0 (rest_outs outs) (known_of me.0.filled me.0.past handle.seat))
-      (sym holds.view), refl),
+          handle (rest me.1) at within holds.view holds.one
+          (known-of me.0.filled me.0.past handle.seat whole holds.knows).1 is-guest,
+      (
+        ap (λ outs. given me.0 (rest_outs outs) (known_of me.0.filled me.0.past handle.seat))
+            (sym holds.view),
+        refl,
+      ),
     ))
 
 pub deal_allowed :
@@ -878,7 +887,7 @@ deal_allowed p slots id me lane knew whole handle within holds gone =
       gives,
       tt,
       deal-keeps p s rule id me.0 lane knew whole holds.outs handle (rest me.1) at within holds.view
-      holds.one holds.knows gone,
+          holds.one holds.knows gone,
       (ap (λ outs. given me.0 (rest_outs outs) me.0.seen) (sym holds.view), refl),
     ))
 
@@ -903,7 +912,7 @@ anew_allowed p slots id me lane knew handle next within holds =
       gives,
       tt,
       anew-keeps p s rule id me.0 lane knew holds.outs handle next (rest me.1) at within holds.view
-      holds.number holds.alone holds.knows holds.all holds.met,
+          holds.number holds.alone holds.knows holds.all holds.met,
       (
         next,
         anew-log next handle.seat holds.knows,
@@ -1106,8 +1115,7 @@ module _
                 (omega (arith, was.0, d-is), sym x.3 ∙ was.1)
             | inr new ↦
                 let is : d ≡ i =
-                some-is d i (sym deals ∙ (ap (λ (x : View). x.guest) new.1 ∙ is-guest)) in
-                (
+                some-is d i (sym deals ∙ (ap (λ (x : View). x.guest) new.1 ∙ is-guest)) in (
                   omega (arith, is),
                   sym (ap (λ (x : View). x.seen) new.1)
                       ∙ sym (rule.fresh i (omega (arith, is, d-is))),
@@ -1131,19 +1139,19 @@ module _
       one-guest one other u w i found found' is-guest is-guest' =
           elim (was-view one u found) [
             | inl x ↦ elim (was-view other w found') [
-                | inl y ↦ rule.one_guest one other x.0 y.0 i x.1 y.1 (x.2 ∙ is-guest) (y.2 ∙ is-guest')
-                | inr new ↦
-                    let less = below one x.0 i x.1 (x.2 ∙ is-guest) in
-                    let is = new-is w i new.1 is-guest' in
-                    absurd (omega (arith, less, is))
-              ]
+              | inl y ↦ rule.one_guest one other x.0 y.0 i x.1 y.1 (x.2 ∙ is-guest) (y.2 ∙ is-guest')
+              | inr new ↦
+                  let less = below one x.0 i x.1 (x.2 ∙ is-guest) in
+                  let is = new-is w i new.1 is-guest' in
+                  absurd (omega (arith, less, is))
+            ]
             | inr new ↦ elim (was-view other w found') [
-                | inl y ↦
-                    let less = below other y.0 i y.1 (y.2 ∙ is-guest') in
-                    let is = new-is u i new.1 is-guest in
-                    absurd (omega (arith, less, is))
-                | inr new' ↦ new.0 ∙ sym new'.0
-              ]
+              | inl y ↦
+                  let less = below other y.0 i y.1 (y.2 ∙ is-guest') in
+                  let is = new-is u i new.1 is-guest in
+                  absurd (omega (arith, less, is))
+              | inr new' ↦ new.0 ∙ sym new'.0
+            ]
           ]
 
       -- who deals is the one who dealt
@@ -1152,9 +1160,9 @@ module _
       who other u e found deals' =
           elim (was-view other u found) [
             | inl x ↦ elim x.6 [
-                | inl here ↦ (here.0, some-is e (suc d) (sym deals' ∙ here.1))
-                | inr away ↦ absurd (away.0 (rule.one_dealer other id x.0 v e d x.1 at (away.1 ∙ deals') deals))
-              ]
+              | inl here ↦ (here.0, some-is e (suc d) (sym deals' ∙ here.1))
+              | inr away ↦ absurd (away.0 (rule.one_dealer other id x.0 v e d x.1 at (away.1 ∙ deals') deals))
+            ]
             | inr new ↦
                 let none-is : ◌≡◌ {A = Option ℕ} None (Some e) =
                 ap (λ (x : View). x.dealer) new.1 ∙ deals' in

@@ -10,13 +10,7 @@ use std::alloc::Global;
 use std::sync::Wait;
 
 /// Takes a lane's handle out of its slot, to those of the lanes below.
-fn gather<R: Wait>(
-    rt: &R,
-    row: &Row,
-    token: &mut Token,
-    handles: &mut Vec<Handle>,
-    lane: usize,
-)
+fn gather<R: Wait>(rt: &R, row: &Row, token: &mut Token, handles: &mut Vec<Handle>, lane: usize)
     requires table { token.old.table_id ≡ row.now.table_id }
     requires lane { lane < row.now.key.seats }
     requires words { row.now.table_id.words ≡ row.now.key.seats }

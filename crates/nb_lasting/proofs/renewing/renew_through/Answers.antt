@@ -17,10 +17,10 @@ pub deal_renewed-requires : goal.deal_renewed-requires
 deal_renewed-requires g c =
     let plan = c.seats-seats.ensures.plan in
     let done = deals c.args.shape c.gather_all.new.token.me c.in_ok-handles.handles.items
-        c.parted_anew-handles.result.0.items plan.seats.0 plan.seats.1
-        (subst (λ n. HoldsBelow n c.gather_all.new.token.me c.in_ok-handles.handles.items)
-        c.seats-seats.ensures.number c.in_ok-handles.ensures.holds)
-        c.parted_anew-handles.result.1 c.parted_anew-handles.ensures in
+    c.parted_anew-handles.result.0.items plan.seats.0 plan.seats.1
+    (subst (λ n. HoldsBelow n c.gather_all.new.token.me c.in_ok-handles.handles.items)
+    c.seats-seats.ensures.number c.in_ok-handles.ensures.holds)
+    c.parted_anew-handles.result.1 c.parted_anew-handles.ensures in
     let seats : c.args.shape.seats ≡ c.args.row.now.key.seats = c.requires.shape in
     record {
       table = c.gather_all.ensures.table ∙ c.requires.table;

@@ -18,7 +18,7 @@ slot_mut-requires g c = (
 pub give-requires-clause-holds : goal.give-requires-clause-holds
 give-requires-clause-holds g c =
     let same = taken-is c.args.lane c.args.token.now.me c.hold.new.token.me c.hold.ensures.taken
-        c.slot_mut.result.now c.in-Some.handle c.slot_mut.ensures.value c.in-Some.is in
+    c.slot_mut.result.now c.in-Some.handle c.slot_mut.ensures.value c.in-Some.is in
     can-give c.args.lane c.args.token.now.me c.hold.new.token.me c.hold.ensures.taken
     c.get-found.new.self
     ((Get c.args.key, record { before = c.get-found.result; matched = true }) ∷ []) c.requires.idle
@@ -30,11 +30,11 @@ give-requires-clause-holds g c =
 pub returns : goal.returns
 returns g c =
     let same = taken-is c.args.lane c.args.token.now.me c.hold.new.token.me c.hold.ensures.taken
-        c.slot_mut.result.now c.in-Some.handle c.slot_mut.ensures.value c.in-Some.is in
+    c.slot_mut.result.now c.in-Some.handle c.slot_mut.ensures.value c.in-Some.is in
     let keeps = subst (λ h. KeepsRest h c.get-found.new.self) (sym same) c.get-found.ensures.rest in
     let logged = subst (λ h. HasLogged h.seat c.get-found.new.self.seat
-        ((Get c.args.key, record { before = c.get-found.result; matched = true }) ∷ [])) (sym same)
-        c.get-found.ensures.got.replied in
+    ((Get c.args.key, record { before = c.get-found.result; matched = true }) ∷ [])) (sym same)
+    c.get-found.ensures.got.replied in
     record {
       table = c.give.ensures.table ∙ c.hold.ensures.table;
       idle = idle-again c.args.lane c.args.token.now.me c.hold.new.token.me c.hold.ensures.taken

@@ -18,10 +18,10 @@ slot_mut-requires g c = (
 pub give-requires-clause-holds : goal.give-requires-clause-holds
 give-requires-clause-holds g c =
     let same = taken-is c.args.lane c.args.token.now.me c.hold.new.token.me c.hold.ensures.taken
-        c.slot_mut.result.now c.in-Some.handle c.slot_mut.ensures.value c.in-Some.is in
+    c.slot_mut.result.now c.in-Some.handle c.slot_mut.ensures.value c.in-Some.is in
     let put = put-logged c.in-Some.handle.map (put_of c.args.entry.0 c.args.entry.1)
-        c.in-Some.handle.seat c.put-found.new.self.seat c.put-found.result
-        c.put-found.ensures.wrote in
+    c.in-Some.handle.seat c.put-found.new.self.seat c.put-found.result
+    c.put-found.ensures.wrote in
     can-give c.args.lane c.args.token.now.me c.hold.new.token.me c.hold.ensures.taken
     c.put-found.new.self put.0 c.requires.idle
     (subst (λ h. KeepsRest h c.put-found.new.self) (sym same) c.put-found.ensures.rest)
@@ -30,10 +30,10 @@ give-requires-clause-holds g c =
 pub returns : goal.returns
 returns g c =
     let same = taken-is c.args.lane c.args.token.now.me c.hold.new.token.me c.hold.ensures.taken
-        c.slot_mut.result.now c.in-Some.handle c.slot_mut.ensures.value c.in-Some.is in
+    c.slot_mut.result.now c.in-Some.handle c.slot_mut.ensures.value c.in-Some.is in
     let put = put-logged c.in-Some.handle.map (put_of c.args.entry.0 c.args.entry.1)
-        c.in-Some.handle.seat c.put-found.new.self.seat c.put-found.result
-        c.put-found.ensures.wrote in
+    c.in-Some.handle.seat c.put-found.new.self.seat c.put-found.result
+    c.put-found.ensures.wrote in
     let keeps = subst (λ h. KeepsRest h c.put-found.new.self) (sym same) c.put-found.ensures.rest in
     let logged = subst (λ h. HasLogged h.seat c.put-found.new.self.seat put.0) (sym same) put.1 in
     record {
