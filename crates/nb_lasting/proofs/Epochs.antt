@@ -23,7 +23,7 @@ leaves (entry ∷ later) first first' same =
     ap (map_after entry.call) (leaves later first first' same)
 
 -- and they reply the same
-replays :
+pub replays :
     (later first first' : List Entry) → map_of_log first ≡ map_of_log first'
     → IsReplayed first' → IsReplayed (later ++ first)
     → IsReplayed (later ++ first')
@@ -131,7 +131,7 @@ renewed e p before after of is =
           (seats_of after) begun.logs,
     )
 
-goes_on :
+pub goes_on :
     (number : ℕ) (first middle last : List Entry) (made made' : List (Call × Reply))
     → HasGoneOnBy number first middle made → HasGoneOnBy number middle last made'
     → HasGoneOnBy number first last (made' ++ made)

@@ -1,5 +1,10 @@
 pub mod Alone
 pub mod Epochs
+pub mod Sharing
+pub mod Joined
+pub mod Renewed
+pub mod Dealt
+pub mod Calling
 pub mod Logged
 pub mod Sizes
 pub mod Theorems

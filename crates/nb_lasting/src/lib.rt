@@ -4,10 +4,14 @@
 #![tactic(auto)]
 
 mod faults;
+mod gathered;
 mod lasting;
 pub mod laws;
+mod opening;
 mod present;
+mod renewing;
 mod shapes;
+mod shared;
 #[cfg(test)]
 mod tests;
 

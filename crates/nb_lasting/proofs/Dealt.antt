@@ -1,0 +1,425 @@
+-- What a renewer's token holds, from step to step.
+use Rattle.std.proofs.Common.{◌≡◌, ◌≢◌, ◌∙◌, ◌+◌, ◌++◌, ◌<◌, ◌≤◌, ◌==◌, ◌⊎◌, ℕ, zero, suc, Bool, true, false, if◌then◌else◌, List, [], ◌∷◌, Some, ap, inl, inr, length, length-append, refl, slice_get, subst, sym, arith}
+use Rattle.std.specs.Prelude.{Err, None, Ok, Option, Result, ⊤, is_ok, unwrap_or}
+use Rattle.std.proofs.lemmas.Option.{slice_get_within}
+use Rattle.atomic_table.specs.Table.{Me, rest}
+use Rattle.nb_core.specs.Log.{log_of}
+use Rattle.nb_core.specs.Plans.{Plan}
+use Rattle.nb_core.specs.declared.events.Event.{Event}
+use Rattle.nb_map.specs.Handles.{HandleOf}
+use Rattle.nb_map.specs.Logs.{log}
+use Rattle.nb_map.specs.Maps.{MapOf}
+use Rattle.nb_lasting.proofs.Calling.{taken-is}
+use Rattle.nb_lasting.proofs.Sharing.{Same, anew-log, current_here, decided, times_else, times_here, with-else, with-here, with_current}
+use Rattle.nb_lasting.specs.Epochs.{HasGoneOnBy}
+use Rattle.nb_lasting.specs.Holding.{CanDeal, CanRenew}
+use Rattle.nb_map.specs.declared.faults.RenewFault.{RenewFault}
+use Rattle.nb_lasting.proofs.Renewed.{all-from, renewed-all}
+use Rattle.nb_lasting.specs.Gathered.{AreSingle, IsPartedAnew, IsSingle}
+use Rattle.nb_lasting.specs.Renewal.{AreAnew, AreHeld, AreRenewed, CanDealAnew, CanDealBelow, HoldsBelow, IsIdleToken, blanks, down}
+use Rattle.nb_lasting.specs.Shared.{EpochIn, Has, HasBegunAnew, HasDealt, HasTaken, Holds, HoldsAnew, IsCurrent, IsLane, KnowsIn, all_knew, given, given_anew, log_in, map_in, rest_outs, times_out}
+use Rattle.nb_lasting.specs.declared.shared.Out.{Out}
+use Rattle.nb_lasting.specs.declared.shared.LaneView.{LaneView}
+
+-- ---- lists
+
+snoc_cases :
+    {X : Type 0} (xs : List X) (y : X) (i : ℕ) (x : X) → slice_get (xs ++ y ∷ []) i ≡ Some x
+    → (slice_get xs i ≡ Some x) ⊎ ((i ≡ length xs) × (y ≡ x))
+snoc_cases [] y zero x at = inr (refl, ap (λ o. unwrap_or o x) at)
+snoc_cases [] y (suc i) x at = absurd (omega (arith, slice_get_within (y ∷ []) (suc i) x at))
+snoc_cases (z ∷ xs) y zero x at = inl at
+snoc_cases (z ∷ xs) y (suc i) x at = later (snoc_cases xs y i x at)
+  where
+    later : (slice_get xs i ≡ Some x) ⊎ ((i ≡ length xs) × (y ≡ x))
+        → (slice_get xs i ≡ Some x) ⊎ ((suc i ≡ suc (length xs)) × (y ≡ x))
+    later (inl old) = inl old
+    later (inr (is, same)) = inr (ap suc is, same)
+
+snoc_at : {X : Type 0} (xs : List X) (y : X) (i : ℕ) (x : X) → slice_get xs i ≡ Some x
+    → slice_get (xs ++ y ∷ []) i ≡ Some x
+snoc_at [] y i x at = absurd (omega (arith, slice_get_within [] i x at))
+snoc_at (z ∷ xs) y zero x at = at
+snoc_at (z ∷ xs) y (suc i) x at = snoc_at xs y i x at
+
+snoc_last : {X : Type 0} (xs : List X) (y : X) → slice_get (xs ++ y ∷ []) (length xs) ≡ Some y
+snoc_last [] y = refl
+snoc_last (z ∷ xs) y = snoc_last xs y
+
+down_more : (knew : ℕ → List Event) (n : ℕ)
+    → down knew (n + 1) ≡ record { lane = n; knew = knew n } ∷ down knew n
+down_more knew n = let e : n + 1 ≡ suc n = omega arith in ap (down knew) e
+
+blanks_more : (n : ℕ) → blanks (n + 1) ≡ (n, None) ∷ blanks n
+blanks_more n = let e : n + 1 ≡ suc n = omega arith in ap blanks e
+
+down_long : (knew : ℕ → List Event) (n : ℕ) → length (down knew n) ≡ n
+down_long knew zero = refl
+down_long knew (suc n) = ap suc (down_long knew n)
+
+down_same : (knew know : ℕ → List Event) (n : ℕ) → ((i : ℕ) → i < n → knew i ≡ know i)
+    → down knew n ≡ down know n
+down_same knew know zero same = refl
+down_same knew know (suc n) same =
+    ap (λ (l : List Event). record { lane = n; knew = l } ∷ down knew n) (same n (omega arith))
+    ∙ ap (λ (outs : List Out). record { lane = n; knew = know n } ∷ outs)
+    (down_same knew know n (λ i less. same i (omega (arith, less))))
+
+down_knew : (whole : List Event) (knew : ℕ → List Event) (n : ℕ)
+    → all_knew whole (down knew n) ≡ down (λ _. whole) n
+down_knew whole knew zero = refl
+down_knew whole knew (suc n) =
+    ap (λ (outs : List Out). record { lane = n; knew = whole } ∷ outs) (down_knew whole knew n)
+
+down_all : (knew : ℕ → List Event) (n i : ℕ) → i < n → 1 ≤ times_out i (down knew n)
+down_all knew zero i below = absurd (omega (arith, below))
+down_all knew (suc n) i below = by (decided i n) (down_all knew n i)
+  where
+    by : Same i n → (i < n → 1 ≤ times_out i (down knew n)) → 1 ≤ times_out i (down knew (suc n))
+    by (inl (is, _)) before =
+        subst (λ k. 1 ≤ times_out k (down knew (suc n))) (sym is)
+        (let e = times_here (record { lane = n; knew = knew n }) (down knew n) in omega (arith, e))
+    by (inr (other, differ)) before =
+        let less : i < n = omega (arith, other, below) in
+        let e = times_else i (record { lane = n; knew = knew n }) (down knew n) differ in
+        let old = before less in
+        omega (arith, e, old)
+
+down_has : (knew : ℕ → List Event) (n : ℕ) (out : Out) → Has out (down knew n)
+    → (out.lane < n) × (out.knew ≡ knew out.lane)
+down_has knew zero out has = absurd has
+down_has knew (suc n) out (inl is) = (
+  let e = ap (λ (o : Out). o.lane) is in omega (arith, e),
+  sym (ap (λ (o : Out). o.knew) is) ∙ ap knew (ap (λ (o : Out). o.lane) is),
+)
+down_has knew (suc n) out (inr has) =
+    let old = down_has knew n out has in (omega (arith, old.0), old.1)
+
+-- ---- a handle is gathered
+
+pub gathered :
+    (lane : ℕ) (before after : Me (Option HandleOf) LaneView) (handles : List HandleOf)
+    (handle : HandleOf) (new : Me (Option HandleOf) LaneView) → HoldsBelow lane before handles
+    → HasTaken lane before after → after.1 ≡ (lane, Some handle) ∷ rest after.1
+    → new ≡ (after.0, (lane, None) ∷ rest after.1)
+    → HoldsBelow (lane + 1) new (handles ++ handle ∷ [])
+gathered lane before after handles handle new holds taken found is = record {
+  knew = with_current holds.knew lane taken.knew;
+  epoch = taken.epoch;
+  outs = ap (λ (m : Me (Option HandleOf) LaneView). m.0.outs) is
+      ∙ (taken.outs ∙ ap (λ (outs : List Out). record { lane = lane; knew = taken.knew } ∷ outs)
+      (holds.outs ∙ down_same holds.knew (with_current holds.knew lane taken.knew) lane
+      (λ i less. sym (with-else holds.knew lane i taken.knew (λ same. absurd (omega (arith, same, less)))))))
+      ∙ ap (λ (l : List Event). record { lane = lane; knew = l } ∷ down (with_current holds.knew lane taken.knew) lane)
+      (sym (with-here holds.knew lane taken.knew))
+      ∙ sym (down_more (with_current holds.knew lane taken.knew) lane);
+  slots = ap (λ (m : Me (Option HandleOf) LaneView). m.1) is
+      ∙ (ap (λ l. (lane, None) ∷ l) (ap rest taken.slots ∙ holds.slots) ∙ sym (blanks_more lane));
+  begun = λ _. (
+    ap (λ (m : Me (Option HandleOf) LaneView). m.0.filled) is ∙ taken.begun.0,
+    ap (λ (m : Me (Option HandleOf) LaneView). m.0.past) is ∙ taken.begun.1,
+  );
+  held = record {
+    count = omega (arith, length-append handles (handle ∷ []), holds.held.count);
+    each = each;
+  };
+}
+  where
+    knew : ℕ → List Event
+    knew = with_current holds.knew lane taken.knew
+
+    view : new.0 ≡ after.0
+    view = ap (λ (m : Me (Option HandleOf) LaneView). m.0) is
+
+    same : taken.handle ≡ handle
+    same = taken-is lane before after taken (Some handle) handle found refl
+
+    Goal : ℕ → HandleOf → Type 0
+    Goal i h = IsLane new.0.map i h × KnowsIn new.0.filled new.0.past h.seat
+        (with_current holds.knew lane taken.knew i)
+
+    each : (i : ℕ) (h : HandleOf) → slice_get (handles ++ handle ∷ []) i ≡ Some h → Goal i h
+    each i h at = by (snoc_cases handles handle i h at)
+      where
+        by : (slice_get handles i ≡ Some h) ⊎ ((i ≡ length handles) × (handle ≡ h)) → Goal i h
+        by (inl old) =
+            let one = holds.held.each i h old in
+            let below = slice_get_within handles i h old in
+            let some-lane : before.0.outs ≢ [] = λ none-held. absurd (omega (
+              arith,
+              below,
+              holds.held.count,
+              ap length (sym holds.outs ∙ none-held),
+              down_long holds.knew lane,
+            )) in
+            let base = taken.same some-lane in
+            let elsewhere : i ≢ lane = λ at-lane. absurd (omega (arith, at-lane, below, holds.held.count)) in (
+              record {
+                map = one.0.map ∙ sym base.0 ∙ sym (ap (λ (v : LaneView). v.map) view);
+                number = one.0.number;
+                alone = one.0.alone;
+              },
+              subst (KnowsIn new.0.filled new.0.past h.seat)
+                  (sym (with-else holds.knew lane i taken.knew elsewhere))
+                  (subst (λ (f : List Event). KnowsIn f new.0.past h.seat (holds.knew i))
+                  (sym base.1 ∙ sym (ap (λ (v : LaneView). v.filled) view))
+                  (subst (λ (l : List Event). KnowsIn before.0.filled l h.seat (holds.knew i))
+                  (sym base.2 ∙ sym (ap (λ (v : LaneView). v.past) view)) one.1)),
+            )
+        by (inr (is-last, is-handle)) =
+            let to : taken.handle ≡ h = same ∙ is-handle in
+            let here : i ≡ lane = omega (arith, is-last, holds.held.count) in
+            subst (λ n. Goal n h) (sym here)
+            (subst (Goal lane) to (
+              record {
+                map = taken.one.map ∙ sym (ap (λ (v : LaneView). v.map) view);
+                number = taken.one.number;
+                alone = taken.one.alone;
+              },
+              subst (KnowsIn new.0.filled new.0.past taken.handle.seat)
+                  (sym (with-here holds.knew lane taken.knew))
+                  (subst (λ (v : LaneView). KnowsIn v.filled v.past taken.handle.seat taken.knew)
+                  (sym view) taken.knows),
+            ))
+
+-- ---- a handle is dealt
+
+-- a vector's last handle, and the others
+popped :
+    (lane : ℕ) (m : MapOf) (filled past : List Event) (know : ℕ → List Event)
+    (handles before : List HandleOf) (handle : HandleOf) → before ≡ handles ++ handle ∷ []
+    → AreHeld m filled past (lane + 1) know before
+    → AreHeld m filled past lane know handles
+    × (IsLane m lane handle × KnowsIn filled past handle.seat (know lane))
+popped lane m filled past know handles before handle is held =
+    let long = length-append handles (handle ∷ []) in
+    let count : length handles ≡ lane = omega (arith, long, ap length is, held.count) in
+    let at-last : slice_get before lane ≡ Some handle =
+    ap (λ xs. slice_get xs lane) is
+    ∙ subst (λ n. slice_get (handles ++ handle ∷ []) n ≡ Some handle) count (snoc_last handles handle) in (
+      record {
+        count = count;
+        each = λ i h at. held.each i h (ap (λ xs. slice_get xs i) is ∙ snoc_at handles handle i h at);
+      },
+      held.each lane handle at-last,
+    )
+
+pub slot_is :
+    (lane : ℕ) (me : Me (Option HandleOf) LaneView) → me.1 ≡ blanks (lane + 1)
+    → me.1 ≡ (lane, None) ∷ rest me.1
+slot_is lane me slots =
+    let e : me.1 ≡ (lane, None) ∷ blanks lane = slots ∙ blanks_more lane in
+    e ∙ ap (λ l. (lane, None) ∷ l) (sym (ap rest e))
+
+module _
+    (lane : ℕ) (me new after : Me (Option HandleOf) LaneView) (handles before : List HandleOf)
+    (handle : HandleOf) (popped-is : before ≡ handles ++ handle ∷ [])
+    (is : new ≡ (me.0, (lane, Some handle) ∷ rest me.1)) where
+  new-view : new.0 ≡ me.0
+  new-view = ap (λ (m : Me (Option HandleOf) LaneView). m.0) is
+
+  new-slot : new.1 ≡ (lane, Some handle) ∷ rest new.1
+  new-slot =
+      let e = ap (λ (m : Me (Option HandleOf) LaneView). m.1) is in
+      e ∙ ap (λ l. (lane, Some handle) ∷ l) (sym (ap rest e))
+
+  outs-is : (knew : ℕ → List Event) → me.0.outs ≡ down knew (lane + 1)
+      → new.0.outs ≡ record { lane = lane; knew = knew lane } ∷ down knew lane
+  outs-is knew outs = ap (λ (v : LaneView). v.outs) new-view ∙ outs ∙ down_more knew lane
+
+  slots-left : me.1 ≡ blanks (lane + 1) → after.1 ≡ rest new.1 → after.1 ≡ blanks lane
+  slots-left slots left =
+      left
+      ∙ (ap rest (ap (λ (m : Me (Option HandleOf) LaneView). m.1) is)
+      ∙ (ap rest slots ∙ ap rest (blanks_more lane)))
+
+  pub can-deal : CanDealBelow (lane + 1) me before → CanDeal lane new
+  can-deal can =
+      let one = (popped lane me.0.map me.0.filled me.0.past can.know handles before handle popped-is
+      can.held).1 in
+      record {
+        knew = can.knew lane;
+        whole = can.know lane;
+        handle = handle;
+        holds = record {
+          outs = down can.knew lane;
+          view = outs-is can.knew can.outs;
+          slot = new-slot;
+          one = subst (λ (v : LaneView). IsLane v.map lane handle) (sym new-view) one.0;
+          knows = subst (λ (v : LaneView). KnowsIn v.filled v.past handle.seat (can.know lane))
+              (sym new-view) one.1;
+        };
+        current = can.current lane (omega arith);
+      }
+
+  pub dealt : CanDealBelow (lane + 1) me before → HasDealt new after → CanDealBelow lane after handles
+  dealt can gone =
+      let old = (popped lane me.0.map me.0.filled me.0.past can.know handles before handle popped-is
+      can.held).0 in
+      record {
+        knew = can.knew;
+        know = can.know;
+        outs = ap (λ (v : LaneView). v.outs) gone.0 ∙ ap rest_outs (outs-is can.knew can.outs);
+        slots = slots-left can.slots gone.1;
+        held = subst (λ (m : MapOf). AreHeld m after.0.filled after.0.past lane can.know handles)
+            (sym (ap (λ (v : LaneView). v.map) gone.0 ∙ ap (λ (v : LaneView). v.map) new-view))
+            (subst (λ (f : List Event). AreHeld me.0.map f after.0.past lane can.know handles)
+            (sym (ap (λ (v : LaneView). v.filled) gone.0 ∙ ap (λ (v : LaneView). v.filled) new-view))
+            (subst (λ (l : List Event). AreHeld me.0.map me.0.filled l lane can.know handles)
+            (sym (ap (λ (v : LaneView). v.past) gone.0 ∙ ap (λ (v : LaneView). v.past) new-view)) old));
+        current = λ i less. can.current i (omega (arith, less));
+      }
+
+  pub can-renew :
+      (p : Plan) → lane + 1 ≡ p.seats → CanDealAnew (lane + 1) me before → CanRenew p lane new
+  can-renew p last can =
+      let one = (popped lane can.anew.shared can.anew.next.filled can.anew.next.past
+      (λ _. can.anew.next.past) handles before handle popped-is can.anew.held).1 in
+      let outs : new.0.outs ≡ down can.knew (lane + 1) = ap (λ (v : LaneView). v.outs) new-view ∙ can.outs in
+      record {
+        knew = can.knew lane;
+        handle = handle;
+        next = can.anew.next;
+        holds = record {
+          outs = down can.knew lane;
+          view = outs-is can.knew can.outs;
+          slot = new-slot;
+          number = one.0.number;
+          alone = one.0.alone;
+          knows = one.1;
+          all = λ i below. subst (λ (outs : List Out). 1 ≤ times_out i outs) (sym outs)
+              (down_all can.knew (lane + 1) i (omega (arith, below, last)));
+          met = λ out has.
+              let is-out = down_has can.knew (lane + 1) out (subst (Has out) outs has) in
+              subst (λ (l : List Event). HasGoneOnBy out.lane (log_of l) (log_of can.anew.next.past) [])
+              (sym is-out.1) (can.anew.met out.lane is-out.0);
+        };
+      }
+
+  pub begun :
+      CanDealAnew (lane + 1) me before → HasBegunAnew new after → CanDealBelow lane after handles
+  begun can gone =
+      let next = gone.0 in
+      let both = popped lane can.anew.shared can.anew.next.filled can.anew.next.past
+      (λ _. can.anew.next.past) handles before handle popped-is can.anew.held in
+      let same : log handle.seat ≡ log_of next.filled =
+      ap log_in (sym new-slot) ∙ gone.1 in
+      let map : after.0.map ≡ can.anew.shared =
+      ap (λ (v : LaneView). v.map) gone.3 ∙ ap (map_in new.0.map) new-slot ∙ both.1.0.map in
+      let filled : after.0.filled ≡ next.filled = ap (λ (v : LaneView). v.filled) gone.3 in
+      let past : after.0.past ≡ next.past = ap (λ (v : LaneView). v.past) gone.3 in
+      record {
+        knew = λ _. next.past;
+        know = λ _. next.past;
+        outs = ap (λ (v : LaneView). v.outs) gone.3
+            ∙ ap (λ (outs : List Out). all_knew next.past (rest_outs outs)) (outs-is can.knew can.outs)
+            ∙ down_knew next.past can.knew lane;
+        slots = slots-left can.slots gone.4;
+        held = record {
+          count = both.0.count;
+          each = λ i h at.
+              let one = both.0.each i h at in (
+                record { map = one.0.map ∙ sym map; number = one.0.number; alone = one.0.alone },
+                record {
+                  later = [];
+                  here = anew-log can.anew.next h.seat one.1
+                      ∙ sym (anew-log can.anew.next handle.seat both.1.1) ∙ same
+                      ∙ sym (ap log_of filled);
+                  is = sym (ap log_of past);
+                  replayed = next.replayed;
+                },
+              );
+        };
+        current = λ i less. current_here i next.past next.replayed;
+      }
+
+-- ---- at the beginning, and at the end
+
+pub holds-none :
+    (me : Me (Option HandleOf) LaneView) (handles : List HandleOf) → handles ≡ [] → IsIdleToken me
+    → HoldsBelow 0 me handles
+holds-none me handles none idle = record {
+  knew = λ _. [];
+  epoch = record { filled = []; past = []; replayed = tt; same = refl };
+  outs = idle.outs;
+  slots = idle.slots;
+  begun = λ some. absurd (omega (arith, some));
+  held = record {
+    count = ap length none;
+    each = λ i h at. absurd (omega (arith, slice_get_within handles i h at, ap length none));
+  };
+}
+
+pub dealt-all :
+    (n : ℕ) (me : Me (Option HandleOf) LaneView) (handles : List HandleOf) → n ≡ 0
+    → CanDealBelow n me handles → IsIdleToken me
+dealt-all n me handles none can = record {
+  outs = can.outs ∙ ap (down can.knew) none;
+  slots = can.slots ∙ ap blanks none;
+}
+
+-- ---- all handles are made one
+
+pub all-single :
+    (n : ℕ) (me : Me (Option HandleOf) LaneView) (handles : List HandleOf) → 1 ≤ n → n ≤ 256
+    → HoldsBelow n me handles → AreSingle handles
+all-single n me handles some few holds = record {
+  shared = me.0.map;
+  each = all-from (IsSingle me.0.map) handles (λ i h at.
+      let one = (holds.held.each i h at).0 in
+      record { map = one.map; alone = one.alone });
+  some = omega (arith, some, holds.held.count);
+  few = omega (arith, few, holds.held.count);
+}
+
+module _
+    (p : Plan) (me : Me (Option HandleOf) LaneView) (before after : List HandleOf) (some : 1 ≤ p.seats)
+    (few : p.seats ≤ 256) (holds : HoldsBelow p.seats me before) where
+  -- what a renewal makes of them, in the words of the token
+  renewed-by :
+      (result : Result ⊤ RenewFault) → IsPartedAnew p before after result
+      → AreRenewed me.0.map me.0.filled me.0.past p.seats holds.knew after result
+  unfolding all-single
+  renewed-by result is =
+      let begun = holds.begun (omega (arith, some)) in
+      subst (λ (f : List Event). AreRenewed me.0.map f me.0.past p.seats holds.knew after result)
+      (sym begun.0)
+      (subst (λ (l : List Event). AreRenewed me.0.map holds.epoch.filled l p.seats holds.knew after
+      result) (sym begun.1)
+      (renewed-all p me.0.map holds.epoch holds.knew before after
+      (subst (λ (f : List Event). AreHeld me.0.map f holds.epoch.past p.seats holds.knew before) begun.0
+      (subst (λ (l : List Event). AreHeld me.0.map me.0.filled l p.seats holds.knew before) begun.1
+      holds.held))
+      (all-single p.seats me before some few holds) result refl is))
+
+  pub deals :
+      (result : Result ⊤ RenewFault) → IsPartedAnew p before after result
+      → (length after ≡ p.seats)
+      × (is_ok result ≡ true → CanDealAnew (length after) me after)
+      × (is_ok result ≡ false → CanDealBelow (length after) me after)
+  deals (Ok done) is =
+      let anew = (renewed-by (Ok done) is).0 in
+      let count = anew.held.count in (
+        count,
+        (λ good. subst (λ n. CanDealAnew n me after) (sym count) (record {
+          knew = holds.knew;
+          outs = holds.outs;
+          slots = holds.slots;
+          anew = anew;
+        })),
+        (λ bad. absurd cc),
+      )
+  deals (Err fault) is =
+      let as-before = (renewed-by (Err fault) is).1 in
+      let count = as-before.held.count in (
+        count,
+        (λ good. absurd cc),
+        (λ bad. subst (λ n. CanDealBelow n me after) (sym count) (record {
+          knew = holds.knew;
+          know = as-before.know;
+          outs = holds.outs;
+          slots = holds.slots;
+          held = as-before.held;
+          current = as-before.current;
+        })),
+      )

@@ -1,0 +1,355 @@
+-- What a renewal makes of the handles of all lanes.
+use Rattle.std.proofs.Common.{◌≡◌, ◌∙◌, ◌+◌, ◌++◌, ◌<◌, ◌≤◌, ℕ, zero, suc, List, [], ◌∷◌, All, Some, ap, inl, inr, length, map, refl, slice_get, subst, sym, arith}
+use Rattle.std.specs.List.{AllZip, range_with_len}
+use Rattle.std.specs.Prelude.{Err, IfErr, IfOk, None, Ok, Option, Result, ⊤, get_or, option_map, unwrap_or}
+use Rattle.std.proofs.lemmas.List.{length-map}
+use Rattle.std.proofs.lemmas.List.Elements.{All-cons, All-head, All-nil, All-tail}
+use Rattle.std.proofs.lemmas.List.FromFn.{get_or-range_with_len, length-range_with_len}
+use Rattle.std.proofs.lemmas.Option.{get_or_from_slice_get, slice_get-get_or, slice_get-map, slice_get_within}
+use Rattle.nb_core.specs.Log.{Entry, IsReplayed, log_of, map_of_log}
+use Rattle.nb_core.specs.Plans.{Plan}
+use Rattle.nb_core.specs.declared.events.Event.{Event}
+use Rattle.nb_map.specs.Entries.{HasOnlyRead}
+use Rattle.nb_map.specs.Bulk.{whole_walk_steps}
+use Rattle.nb_map.specs.Handles.{HandleOf, IsSameMap, handle_on, seats_of}
+use Rattle.nb_map.specs.Logs.{log}
+use Rattle.nb_map.specs.Maps.{MapOf, SeatOf, new_seat, new_seats}
+use Rattle.nb_map.specs.Renewing.{HasRenewed, IsKept}
+use Rattle.nb_map.specs.declared.faults.RenewFault.{RenewFault}
+use Rattle.nb_lasting.proofs.Calling.{known-then}
+use Rattle.nb_lasting.proofs.Epochs.{one_log_for_all}
+use Rattle.nb_lasting.proofs.Sharing.{log-as-events}
+use Rattle.nb_lasting.specs.Epochs.{AllKnow, EpochOf, HasGoneOnBy, HaveMetIn, IsOfEpoch, Knows}
+use Rattle.nb_lasting.specs.Gathered.{AreSingle, IsPartedAnew, IsSingle, seats_of_each}
+use Rattle.nb_lasting.specs.Renewal.{AreAnew, AreAsBefore, AreHeld, AreRenewed}
+use Rattle.nb_lasting.specs.Shared.{EpochIn, IsCurrent, IsLane, KnowsIn, as_events, known_of}
+
+-- ---- lists by index
+
+some-same : {X : Type 0} (x y : X) → ◌≡◌ {A = Option X} (Some x) (Some y) → x ≡ y
+some-same x y is = ap (λ o. unwrap_or o x) is
+
+at-all : {X : Type 0} (P : X → Type 0) (xs : List X) (i : ℕ) (x : X) → All P xs
+    → slice_get xs i ≡ Some x → P x
+at-all P [] i x all at = absurd (omega (arith, slice_get_within [] i x at))
+at-all P (y ∷ ys) zero x all at = subst P (some-same y x at) (All-head P y ys all)
+at-all P (y ∷ ys) (suc i) x all at = at-all P ys i x (All-tail P y ys all) at
+
+pub all-from : {X : Type 0} (P : X → Type 0) (xs : List X)
+    → ((i : ℕ) (x : X) → slice_get xs i ≡ Some x → P x)
+    → All P xs
+all-from P [] each = All-nil P
+all-from P (x ∷ xs) each =
+    All-cons P x xs (each 0 x refl) (all-from P xs (λ i y at. each (suc i) y at))
+
+zip-at : {X : Type 0} (P : X → X → Type 0) (xs ys : List X) (i : ℕ) (y : X) → AllZip P xs ys
+    → slice_get ys i ≡ Some y
+    → (x : X) × (slice_get xs i ≡ Some x) × P x y
+zip-at P [] [] i y all at = absurd (omega (arith, slice_get_within [] i y at))
+zip-at P [] (z ∷ ys) i y all at = absurd all
+zip-at P (x ∷ xs) [] i y all at = absurd all
+zip-at P (x ∷ xs) (z ∷ ys) zero y all at = (x, refl, subst (P x) (some-same z y at) all.0)
+zip-at P (x ∷ xs) (z ∷ ys) (suc i) y all at = zip-at P xs ys i y all.1 at
+
+-- a handle's seat, and a seat's handle
+seat-at : (handles : List HandleOf) (i : ℕ) (h : HandleOf) → slice_get handles i ≡ Some h
+    → slice_get (seats_of_each handles) i ≡ Some h.seat
+seat-at [] i h at = absurd (omega (arith, slice_get_within [] i h at))
+seat-at (x ∷ xs) zero h at = ap (λ (x : HandleOf). Some x.seat) (some-same x h at)
+seat-at (x ∷ xs) (suc i) h at = seat-at xs i h at
+
+handle-at : (handles : List HandleOf) (i : ℕ) (s : SeatOf)
+    → slice_get (seats_of_each handles) i ≡ Some s
+    → (h : HandleOf) × (slice_get handles i ≡ Some h) × (h.seat ≡ s)
+handle-at [] i s at = absurd (omega (arith, slice_get_within [] i s at))
+handle-at (x ∷ xs) zero s at = (x, refl, some-same x.seat s at)
+handle-at (x ∷ xs) (suc i) s at = handle-at xs i s at
+
+mapped-at : (m : MapOf) (seats : List SeatOf) (i : ℕ) (h : HandleOf)
+    → slice_get (map (handle_on m) seats) i ≡ Some h
+    → (s : SeatOf) × (slice_get seats i ≡ Some s) × (h ≡ handle_on m s)
+mapped-at m [] i h at = absurd (omega (arith, slice_get_within [] i h at))
+mapped-at m (s ∷ seats) zero h at = (s, refl, sym (some-same (handle_on m s) h at))
+mapped-at m (s ∷ seats) (suc i) h at = mapped-at m seats i h at
+
+-- seats that are numbered by their places
+number-at :
+    (seats : List SeatOf) (n i : ℕ) (s : SeatOf)
+    → map (λ (seat : SeatOf). seat.chain.number) seats ≡ range_with_len 0 n
+    → slice_get seats i ≡ Some s
+    → s.chain.number ≡ i
+number-at seats n i s numbered at =
+    let here : slice_get (range_with_len 0 n) i ≡ Some s.chain.number =
+    ap (λ xs. slice_get xs i) (sym numbered)
+    ∙ (slice_get-map (λ (seat : SeatOf). seat.chain.number) seats i
+    ∙ ap (option_map (λ (seat : SeatOf). seat.chain.number)) at) in
+    let within : i < n =
+    omega (arith, slice_get_within (range_with_len 0 n) i _ here, length-range_with_len 0 n) in
+    let a = get_or_from_slice_get (range_with_len 0 n) i _ 0 here in
+    let b = get_or-range_with_len 0 n i 0 within in
+    omega (arith, a, b)
+
+-- ---- a renewal
+
+-- an epoch in events, as one in logs
+abbrev logs-of : EpochIn → EpochOf
+logs-of e = record {
+  filled = log_of e.filled;
+  past = log_of e.past;
+  replayed = e.replayed;
+  same = e.same;
+}
+
+module _
+    (p : Plan) (m : MapOf) (e : EpochIn) (knew : ℕ → List Event) (before after : List HandleOf)
+    (held : AreHeld m e.filled e.past p.seats knew before) (single : AreSingle before) where
+  knows-at : (i : ℕ) (h : HandleOf) → slice_get before i ≡ Some h
+      → Knows (logs-of e) h.seat (log_of (knew i))
+  knows-at i h at =
+      let knows = (held.each i h at).1 in
+      record { later = knows.later; here = knows.here; is = knows.is; replayed = knows.replayed }
+
+  anew : (joined whole : HandleOf) → seats_of joined ≡ seats_of_each before → HasRenewed p joined whole
+      → AreAnew p.seats knew (map (handle_on whole.map) (seats_of whole))
+  anew joined whole seats renewed = record {
+    shared = whole.map;
+    next = next;
+    held = record { count = count; each = each };
+    met = met;
+  }
+    where
+      all : All (IsOfEpoch (logs-of e)) (seats_of joined)
+      all =
+          subst (All (IsOfEpoch (logs-of e))) (sym seats)
+          (all-from (IsOfEpoch (logs-of e)) (seats_of_each before)
+          (λ i s at.
+          let h = handle-at before i s at in
+          (log_of (knew i), subst (λ s. Knows (logs-of e) s (log_of (knew i))) h.2 (knows-at i h.0 h.1))))
+
+      step :
+          (next : EpochOf) × HaveMetIn (logs-of e) (seats_of joined) renewed.ended next.past
+          × AllKnow next whole next.past
+      step = one_log_for_all.renewed {e = logs-of e} {p = p} {before = joined} {after = whole} all renewed
+
+      next : EpochIn
+      next = record {
+        filled = as_events step.0.filled;
+        past = as_events step.0.past;
+        replayed = subst IsReplayed (sym (log-as-events step.0.past)) step.0.replayed;
+        same = ap map_of_log (log-as-events step.0.filled) ∙ step.0.same
+            ∙ ap map_of_log (sym (log-as-events step.0.past));
+      }
+
+      shape : whole.map.chain.shape ≡ p
+      shape = renewed.begun.made.shape
+
+      numbered : map (λ (seat : SeatOf). seat.chain.number) (seats_of whole) ≡ range_with_len 0 p.seats
+      numbered =
+          renewed.begun.begun.numbered ∙ ap (λ (q : Plan). range_with_len 0 q.seats) shape
+
+      count : length (map (handle_on whole.map) (seats_of whole)) ≡ p.seats
+      count =
+          length-map (seats_of whole) (handle_on whole.map)
+          ∙ sym (length-map (seats_of whole) (λ (seat : SeatOf). seat.chain.number))
+          ∙ ap length numbered ∙ length-range_with_len 0 p.seats
+
+      each :
+          (i : ℕ) (h : HandleOf) → slice_get (map (handle_on whole.map) (seats_of whole)) i ≡ Some h
+          → IsLane whole.map i h × KnowsIn next.filled next.past h.seat next.past
+      each i h at =
+          let s = mapped-at whole.map (seats_of whole) i h at in
+          let knows = at-all (λ seat. Knows step.0 seat step.0.past) (seats_of whole) i s.0 step.2 s.1 in
+          subst (λ (x : HandleOf). IsLane whole.map i x
+          × KnowsIn next.filled next.past x.seat next.past) (sym s.2) (
+            record {
+              map = refl;
+              number = number-at (seats_of whole) p.seats i s.0 numbered s.1;
+              alone = refl;
+            },
+            record {
+              later = knows.later;
+              here = knows.here ∙ ap (λ l. knows.later ++ l) (sym (log-as-events step.0.filled));
+              is = log-as-events step.0.past ∙ knows.is
+                  ∙ ap (λ l. knows.later ++ l) (sym (log-as-events step.0.past));
+              replayed = next.replayed;
+            },
+          )
+
+      met : (i : ℕ) → i < p.seats → HasGoneOnBy i (log_of (knew i)) (log_of next.past) []
+      met i below =
+          let d = joined in
+          let at : slice_get before i ≡ Some (get_or before i d) =
+          slice_get-get_or before i d (omega (arith, below, held.count)) in
+          let h = get_or before i d in
+          let seat = ap (λ xs. slice_get xs i) seats ∙ seat-at before i h at in
+          let gone = at-all (λ seat. (known : List Entry) → Knows (logs-of e) seat known
+          → HasGoneOnBy seat.chain.number known step.0.past []) (seats_of joined) i h.seat step.1.each seat
+          (log_of (knew i)) (knows-at i h at) in
+          subst (λ l. HasGoneOnBy i (log_of (knew i)) l []) (sym (log-as-events step.0.past))
+          (subst (λ n. HasGoneOnBy n (log_of (knew i)) step.0.past []) (held.each i h at).0.number gone)
+
+  -- what a handle with one seat is
+  is-on : (h : HandleOf) → h.map ≡ m → h.reserve ≡ [] → h ≡ handle_on m h.seat
+  is-on h same alone =
+      ap (λ (x : MapOf). record { map = x; seat = h.seat; reserve = h.reserve }) same
+      ∙ ap (λ (r : List SeatOf). record { map = m; seat = h.seat; reserve = r }) alone
+
+  as-before :
+      (joined whole : HandleOf) → joined.map ≡ m → seats_of joined ≡ seats_of_each before
+      → IsKept joined whole
+      → AreAsBefore m e.filled e.past p.seats knew (map (handle_on whole.map) (seats_of whole))
+  as-before joined whole one seats (inl same) = record {
+    know = knew;
+    held = record {
+      count = length-map (seats_of whole) (handle_on whole.map)
+          ∙ ap (λ (h : HandleOf). length (seats_of h)) same ∙ ap length seats
+          ∙ length-map before (λ (h : HandleOf). h.seat) ∙ held.count;
+      each = λ i h at.
+          let s = mapped-at whole.map (seats_of whole) i h at in
+          let at-seat : slice_get (seats_of_each before) i ≡ Some s.0 =
+          ap (λ xs. slice_get xs i) (sym (ap seats_of same ∙ seats)) ∙ s.1 in
+          let was = handle-at before i s.0 at-seat in
+          let each = held.each i was.0 was.1 in (
+            record {
+              map = ap (λ (x : HandleOf). x.map) s.2 ∙ ap (λ (x : HandleOf). x.map) same ∙ one;
+              number = ap (λ (x : HandleOf). x.seat.chain.number) s.2
+                  ∙ ap (λ (x : SeatOf). x.chain.number) (sym was.2) ∙ each.0.number;
+              alone = ap (λ (x : HandleOf). x.reserve) s.2;
+            },
+            subst (λ x. KnowsIn e.filled e.past x (knew i))
+                (was.2 ∙ sym (ap (λ (x : HandleOf). x.seat) s.2)) each.1,
+          );
+    };
+    current = λ i below.
+        let at : slice_get before i ≡ Some (get_or before i joined) =
+        slice_get-get_or before i joined (omega (arith, below, held.count)) in
+        record {
+          made = [];
+          reads = All-nil _;
+          gone = record {
+            later = [];
+            grown = refl;
+            replayed = (held.each i (get_or before i joined) at).1.replayed;
+            own = refl;
+          };
+        };
+  }
+  as-before joined whole one seats (inr (same, reads)) = record {
+    know = know;
+    held = record {
+      count = length-map (seats_of whole) (handle_on whole.map)
+          ∙ sym (length-zip (seats_of joined) (seats_of whole) reads) ∙ ap length seats
+          ∙ length-map before (λ (h : HandleOf). h.seat) ∙ held.count;
+      each = λ i h at.
+          let s = mapped-at whole.map (seats_of whole) i h at in
+          let x = after-at i s.0 s.1 in (
+            record {
+              map = ap (λ (x : HandleOf). x.map) s.2 ∙ same ∙ one;
+              number = ap (λ (x : HandleOf). x.seat.chain.number) s.2 ∙ x.0;
+              alone = ap (λ (x : HandleOf). x.reserve) s.2;
+            },
+            subst (λ y. KnowsIn e.filled e.past y (know i)) (sym (ap (λ (x : HandleOf). x.seat) s.2))
+                x.1,
+          );
+    };
+    current = λ i below.
+        let long : i < length (seats_of whole) =
+        omega (
+          arith,
+          below,
+          held.count,
+          length-zip (seats_of joined) (seats_of whole) reads,
+          ap length seats,
+          length-map before (λ (h : HandleOf). h.seat),
+        ) in
+        (after-at i (get_or (seats_of whole) i whole.seat)
+        (slice_get-get_or (seats_of whole) i whole.seat long)).2;
+  }
+    where
+      P : SeatOf → SeatOf → Type 0
+      P old new = HasOnlyRead joined.map old new (whole_walk_steps joined.map.chain.shape)
+
+      length-zip : (xs ys : List SeatOf) → AllZip (λ old new. HasOnlyRead joined.map old new (whole_walk_steps joined.map.chain.shape)) xs ys → length xs ≡ length ys
+      length-zip [] [] all = refl
+      length-zip [] (y ∷ ys) all = absurd all
+      length-zip (x ∷ xs) [] all = absurd all
+      length-zip (x ∷ xs) (y ∷ ys) all = ap suc (length-zip xs ys all.1)
+
+      know : ℕ → List Event
+      know i = known_of e.filled e.past (get_or (seats_of whole) i whole.seat)
+
+      after-at : (i : ℕ) (s : SeatOf) → slice_get (seats_of whole) i ≡ Some s
+          → (s.chain.number ≡ i) × KnowsIn e.filled e.past s (know i) × IsCurrent i (knew i) (know i)
+      after-at i s at =
+          let was = zip-at P (seats_of joined) (seats_of whole) i s reads at in
+          let h = handle-at before i was.0 (ap (λ xs. slice_get xs i) (sym seats) ∙ was.1) in
+          let each = held.each i h.0 h.1 in
+          let read = was.2 in
+          let number : was.0.chain.number ≡ i =
+          ap (λ (x : SeatOf). x.chain.number) (sym h.2) ∙ each.0.number in
+          let knows = known-then e was.0 s (knew i) read.made
+          (subst (λ x. KnowsIn e.filled e.past x (knew i)) h.2 each.1) read.logged in
+          let here : s ≡ get_or (seats_of whole) i whole.seat =
+          sym (get_or_from_slice_get (seats_of whole) i s whole.seat at) in (
+            read.logged.number ∙ number,
+            subst (λ x. KnowsIn e.filled e.past s (known_of e.filled e.past x)) here knows.0,
+            record {
+              made = read.made;
+              reads = read.reads;
+              gone = subst (λ x. HasGoneOnBy i (log_of (knew i)) (log_of (known_of e.filled e.past x))
+                  read.made) here
+                  (subst (λ n. HasGoneOnBy n (log_of (knew i))
+                  (log_of (known_of e.filled e.past s)) read.made) number knows.1);
+            },
+          )
+
+  pub renewed-all :
+      (result : Result ⊤ RenewFault) → single.shared ≡ m → IsPartedAnew p before after result
+      → AreRenewed m e.filled e.past p.seats knew after result
+  renewed-all (Ok done) one is = (
+    subst (AreAnew p.seats knew) (sym is.parted) (anew is.joined is.whole is.seats is.renewed),
+    tt,
+  )
+  renewed-all (Err fault) one is = (
+    tt,
+    subst (AreAsBefore m e.filled e.past p.seats knew) (sym is.parted)
+        (as-before is.joined is.whole (is.one_map single ∙ one) is.seats is.kept),
+  )
+
+-- ---- a new map
+
+module _
+    (whole : HandleOf) (n : ℕ) (handles : List HandleOf)
+    (seats : seats_of whole ≡ new_seats whole.map n)
+    (parted : handles ≡ map (handle_on whole.map) (seats_of whole)) where
+  pub new-count : length handles ≡ n
+  new-count =
+      ap length parted ∙ length-map (seats_of whole) (handle_on whole.map) ∙ ap length seats
+      ∙ length-map (range_with_len 0 n) (new_seat whole.map) ∙ length-range_with_len 0 n
+
+  pub new-lanes :
+      (i : ℕ) (h : HandleOf) → slice_get handles i ≡ Some h
+      → IsLane whole.map i h × (log h.seat ≡ [])
+  new-lanes i h at =
+      let s = mapped-at whole.map (seats_of whole) i h (ap (λ xs. slice_get xs i) (sym parted) ∙ at) in
+      let new = new-at (range_with_len 0 n) i s.0 (ap (λ xs. slice_get xs i) (sym seats) ∙ s.1) in
+      let below : i < n =
+      omega (arith, slice_get_within (range_with_len 0 n) i new.0 new.1, length-range_with_len 0 n) in
+      let number : new.0 ≡ i =
+      (let a = get_or_from_slice_get (range_with_len 0 n) i new.0 0 new.1 in
+      let b = get_or-range_with_len 0 n i 0 below in
+      omega (arith, a, b)) in (
+        record {
+          map = ap (λ (x : HandleOf). x.map) s.2;
+          number = ap (λ (x : HandleOf). x.seat.chain.number) s.2
+              ∙ ap (λ (x : SeatOf). x.chain.number) new.2 ∙ number;
+          alone = ap (λ (x : HandleOf). x.reserve) s.2;
+        },
+        ap (λ (x : HandleOf). log x.seat) s.2 ∙ ap log new.2,
+      )
+    where
+      new-at : (ns : List ℕ) (i : ℕ) (s : SeatOf) → slice_get (map (new_seat whole.map) ns) i ≡ Some s
+          → (k : ℕ) × (slice_get ns i ≡ Some k) × (s ≡ new_seat whole.map k)
+      new-at [] i s at = absurd (omega (arith, slice_get_within [] i s at))
+      new-at (k ∷ ns) zero s at = (k, refl, sym (some-same (new_seat whole.map k) s at))
+      new-at (k ∷ ns) (suc i) s at = new-at ns i s at

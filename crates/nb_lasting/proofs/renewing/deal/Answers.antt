@@ -1,0 +1,20 @@
+use Rattle.std.proofs.Common.{◌≡◌, ◌∙◌, ◌++◌, ◌∷◌, [], ◌+◌, Some, ap, subst, sym, arith}
+use Rattle.std.specs.Prelude.{None}
+use Rattle.nb_lasting.proofs.Dealt.{can-deal, dealt, slot_is}
+use Rattle.nb_lasting.proofs.renewing.deal.Goals as goal
+
+pub exchange-requires : goal.exchange-requires
+exchange-requires c =
+    (c.requires.table, (None, slot_is c.args.lane c.args.token.now.me c.requires.holds.slots))
+
+pub give_back-requires-clause-holds : goal.give_back-requires-clause-holds
+give_back-requires-clause-holds c =
+    can-deal c.args.lane c.args.token.now.me c.exchange.new.seat.me c.exchange.new.seat.me
+    c.pop.new.self.items c.args.handles.now.items c.in-Some.handle c.in-Some.ensures.items
+    c.exchange.ensures.3 c.requires.holds
+
+pub returns-clause-holds : goal.returns-clause-holds
+returns-clause-holds c =
+    dealt c.args.lane c.args.token.now.me c.exchange.new.seat.me c.give_back.new.token.me
+    c.pop.new.self.items c.args.handles.now.items c.in-Some.handle c.in-Some.ensures.items
+    c.exchange.ensures.3 c.requires.holds c.give_back.ensures.given

@@ -1,0 +1,12 @@
+use Rattle.std.proofs.Common.{◌≡◌, ◌≤◌, length, vec_capacity}
+use Rattle.nb_lasting.specs.Renewal.{HoldsBelow, IsSameGuest}
+use Rattle.nb_lasting.proofs.renewing.gather_all.Given as goal
+
+abbrev pub invariant-loop-lane : goal.invariant-loop-lane
+invariant-loop-lane g l = record {
+  table : l.token.table_id ≡ l.fn.token.table_id;
+  guest : IsSameGuest l.fn.token.me.0 l.token.me.0;
+  room : l.fn.seats ≤ vec_capacity l.handles;
+  count : length l.handles.items ≡ l.lane;
+  holds : HoldsBelow l.lane l.token.me l.handles.items;
+}

@@ -1,0 +1,93 @@
+-- What a renewer holds: the handles of the lanes below a number, and of all lanes at last.
+use Rattle.std.specs.Prelude.{◌≡◌, ◌<◌, ℕ, zero, suc, List, [], ◌∷◌, Option, Some, None, IfErr, IfOk, Result, ⊤, length, slice_get}
+use Rattle.atomic_table.specs.Table.{Me}
+use Rattle.nb_core.specs.Log.{log_of}
+use Rattle.nb_core.specs.declared.events.Event.{Event}
+use Rattle.nb_map.specs.Handles.{HandleOf}
+use Rattle.nb_map.specs.Maps.{MapOf}
+use Rattle.nb_map.specs.declared.faults.RenewFault.{RenewFault}
+use Rattle.nb_lasting.specs.Epochs.{HasGoneOnBy}
+use Rattle.nb_lasting.specs.Shared.{EpochIn, IsCurrent, IsLane, KnowsIn}
+use Rattle.nb_lasting.specs.declared.shared.Out.{Out}
+use Rattle.nb_lasting.specs.declared.shared.LaneView.{LaneView}
+
+-- so many handles of this map, each its lane's, and what each of them knows
+pub record AreHeld (m : MapOf) (filled past : List Event) (n : ℕ) (knew : ℕ → List Event)
+    (handles : List HandleOf) : Type 0 where
+  pub count : length handles ≡ n
+  pub each :
+      (i : ℕ) (h : HandleOf) → slice_get handles i ≡ Some h
+      → IsLane m i h × KnowsIn filled past h.seat (knew i)
+
+-- the lanes below a number, the last first, with what their handles knew, and their empty slots
+abbrev pub down : (ℕ → List Event) → ℕ → List Out
+down knew zero = []
+down knew (suc n) = record { lane = n; knew = knew n } ∷ down knew n
+
+abbrev pub blanks : ℕ → List (ℕ × Option HandleOf)
+blanks zero = []
+blanks (suc n) = (n, None) ∷ blanks n
+
+-- The handles of all lanes are of another map, whose epoch goes on from what each lane's handle
+-- knew, by no call of it; and that is what they know.
+pub record AreAnew (n : ℕ) (knew : ℕ → List Event) (handles : List HandleOf) : Type 0 where
+  pub shared : MapOf
+  pub next : EpochIn
+  pub held : AreHeld shared next.filled next.past n (λ _. next.past) handles
+  pub met : (i : ℕ) → i < n → HasGoneOnBy i (log_of (knew i)) (log_of next.past) []
+
+-- They are of the map that they were of, and have called nothing but reads.
+pub record AreAsBefore (m : MapOf) (filled past : List Event) (n : ℕ) (knew : ℕ → List Event)
+    (handles : List HandleOf) : Type 0 where
+  pub know : ℕ → List Event
+  pub held : AreHeld m filled past n know handles
+  pub current : (i : ℕ) → i < n → IsCurrent i (knew i) (know i)
+
+-- what a renewal makes of all handles
+abbrev pub AreRenewed :
+    MapOf → (filled past : List Event) → ℕ → (ℕ → List Event) → (after : List HandleOf)
+    → Result ⊤ RenewFault → Type 0
+AreRenewed m filled past n knew after result =
+    IfOk result (λ done. AreAnew n knew after)
+    × IfErr result (λ fault. AreAsBefore m filled past n knew after)
+
+-- ---- what the renewer's token holds
+
+-- It has the handles of the lanes below this number, in a list of its own.
+pub record HoldsBelow (n : ℕ) (me : Me (Option HandleOf) LaneView) (handles : List HandleOf) :
+    Type 0 where
+  pub knew : ℕ → List Event
+  pub epoch : EpochIn
+  pub outs : me.0.outs ≡ down knew n
+  pub slots : me.1 ≡ blanks n
+  pub begun : 0 < n → (me.0.filled ≡ epoch.filled) × (me.0.past ≡ epoch.past)
+  pub held : AreHeld me.0.map me.0.filled me.0.past n knew handles
+
+-- It has them still, and they have called nothing but reads since.
+pub record CanDealBelow (n : ℕ) (me : Me (Option HandleOf) LaneView) (handles : List HandleOf) :
+    Type 0 where
+  pub knew : ℕ → List Event
+  pub know : ℕ → List Event
+  pub outs : me.0.outs ≡ down knew n
+  pub slots : me.1 ≡ blanks n
+  pub held : AreHeld me.0.map me.0.filled me.0.past n know handles
+  pub current : (i : ℕ) → i < n → IsCurrent i (knew i) (know i)
+
+-- It has those of all lanes, and they are of a new map.
+pub record CanDealAnew (n : ℕ) (me : Me (Option HandleOf) LaneView) (handles : List HandleOf) :
+    Type 0 where
+  pub knew : ℕ → List Event
+  pub outs : me.0.outs ≡ down knew n
+  pub slots : me.1 ≡ blanks n
+  pub anew : AreAnew n knew handles
+
+-- a token that has no lane's handle
+pub record IsIdleToken (me : Me (Option HandleOf) LaneView) : Type 0 where
+  pub outs : me.0.outs ≡ []
+  pub slots : me.1 ≡ []
+
+-- the token's guest has seen what it had seen, and makes as many guests
+pub record IsSameGuest (before after : LaneView) : Type 0 where
+  pub guest : after.guest ≡ before.guest
+  pub seen : after.seen ≡ before.seen
+  pub dealer : after.dealer ≡ before.dealer

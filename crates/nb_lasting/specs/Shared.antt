@@ -1,0 +1,310 @@
+-- Lanes that threads share: each guest has one, whose handle is at home in a slot of a table while
+-- the guest makes no call. Who makes the map anew takes all handles. This is the rule of that table,
+-- with the one log of all calls in it.
+use Rattle.std.specs.Prelude.{refl, zero, suc, slice_get, ◌≡◌, ◌≢◌, ◌==◌, ◌<◌, ◌+◌, ◌≤◌, ◌-◌, ◌++◌, ◌⊎◌, take, ℕ, if◌then◌else◌, List, [], ◌∷◌, Option, Some, None, All, length, map, slice_index}
+use mathlib.Core.Option as maths
+use mathlib.Core.Option.{none, some}
+use lib.ListN.{get_elem?}
+use Rattle.atomic_table.specs.Seated.{TableId}
+use Rattle.atomic_table.specs.Table.{Me, State, Step, rest}
+use Rattle.nb_core.specs.Log.{Entry, IsReplayed, log_of, map_of_log}
+use Rattle.nb_core.specs.Plans.{Plan}
+use Rattle.nb_core.specs.declared.calls.Call.{Call}
+use Rattle.nb_core.specs.declared.calls.Reply.{Reply}
+use Rattle.nb_core.specs.declared.events.Event.{Event}
+use Rattle.nb_core.specs.declared.events.Event.TheVariants.{Read}
+use Rattle.nb_map.specs.Entries.{IsRead}
+use Rattle.nb_map.specs.Handles.{HandleOf}
+use Rattle.nb_map.specs.Logs.{log}
+use Rattle.nb_map.specs.Maps.{MapOf, SeatOf}
+use Rattle.nb_lasting.specs.Epochs.{HasGoneOnBy}
+use Rattle.nb_lasting.specs.declared.shared.Out.{Out}
+use Rattle.nb_lasting.specs.declared.shared.LaneView.{LaneView}
+
+-- ---- logs in views
+--
+-- A view is a struct of the code, in which a log stands as events that leave it.
+
+-- an entry as an event, and a log as events
+abbrev pub as_event : Entry → Event
+as_event entry = Read entry.seat entry.call entry.reply
+
+abbrev pub as_events : List Entry → List Event
+as_events = map as_event
+
+-- What a map went on from (`EpochOf`), as events.
+pub record EpochIn : Type 0 where
+  pub filled : List Event
+  pub past : List Event
+  pub replayed : IsReplayed (log_of past)
+  pub same : map_of_log (log_of filled) ≡ map_of_log (log_of past)
+
+-- it knows this map and this epoch
+pub record IsOfMap (m : MapOf) (e : EpochIn) (v : LaneView) : Type 0 where
+  pub map : v.map ≡ m
+  pub filled : v.filled ≡ e.filled
+  pub past : v.past ≡ e.past
+
+-- This is the one log that the seat knows, of a map that was filled by this log, and went on from
+-- that.
+pub record KnowsIn (filled past : List Event) (seat : SeatOf) (whole : List Event) : Type 0 where
+  pub later : List Entry
+  pub here : log seat ≡ later ++ log_of filled
+  pub is : log_of whole ≡ later ++ log_of past
+  pub replayed : IsReplayed (log_of whole)
+
+-- the one log has gone on from this log to that one, with no more calls of the lane than reads,
+-- which a renewal that was refused has made
+pub record IsCurrent (lane : ℕ) (seen whole : List Event) : Type 0 where
+  pub made : List (Call × Reply)
+  pub reads : All IsRead made
+  pub gone : HasGoneOnBy lane (log_of seen) (log_of whole) made
+
+-- the handle is the lane's, of this map
+pub record IsLane (m : MapOf) (lane : ℕ) (handle : HandleOf) : Type 0 where
+  pub map : handle.map ≡ m
+  pub number : handle.seat.chain.number ≡ lane
+  pub alone : handle.reserve ≡ []
+
+-- ---- who has which handle
+
+abbrev pub LaneMoment : Type 0
+LaneMoment = State (Option HandleOf) LaneView
+
+-- how often a lane is out, by this list; by all views; and by the table's slot
+abbrev pub times_out : ℕ → List Out → ℕ
+times_out i [] = 0
+times_out i (out ∷ outs) = if i == out.lane then 1 + times_out i outs else times_out i outs
+
+abbrev pub holders : ℕ → List LaneView → ℕ
+holders i [] = 0
+holders i (v ∷ views) = times_out i v.outs + holders i views
+
+abbrev pub absent : maths.Option (maths.Option (Option HandleOf)) → ℕ
+absent (some none) = 1
+absent (some (some y)) = 0
+absent none = 0
+
+abbrev pub Has : Out → List Out → Type 0
+Has out [] = ⊥
+Has out (o ∷ outs) = (o ≡ out) ⊎ Has out outs
+
+-- ---- the rule
+
+-- There is one map, with its epoch, and in each lane a log is current: the one log that the handle
+-- knows which is at home there, or that it knew when it was taken. It goes on from what the lane's
+-- guest has seen, by no call of the guest. Lanes have guests up to a number, which one token knows
+-- that makes more of them; where there is no guest yet, nothing has been seen.
+pub record IsOneLog (p : Plan) (s : LaneMoment) : Type 0 where
+  pub shared : MapOf
+  pub epoch : EpochIn
+  pub current : ℕ → List Event
+  pub seen : ℕ → List Event
+  pub dealt : ℕ
+  pub count : length s.homes ≡ p.seats
+  pub long : length s.words ≡ p.seats
+  pub homes :
+      (i : ℕ) (y : Option HandleOf) → get_elem? s.homes i ≡ some (some y)
+      → (handle : HandleOf) × (y ≡ Some handle) × IsLane shared i handle
+      × KnowsIn epoch.filled epoch.past handle.seat (current i)
+  pub words : (i : ℕ) → i < p.seats → slice_index s.words i ≡ absent (get_elem? s.homes i)
+  pub once : (i : ℕ) → holders i s.views ≡ absent (get_elem? s.homes i)
+  pub held :
+      (id : ℕ) (v : LaneView) → get_elem? s.views id ≡ some v → v.outs ≢ [] → IsOfMap shared epoch v
+  pub knew :
+      (id : ℕ) (v : LaneView) (out : Out) → get_elem? s.views id ≡ some v → Has out v.outs
+      → current out.lane ≡ out.knew
+  pub goes : (i : ℕ) → i < p.seats → IsCurrent i (seen i) (current i)
+  pub guests :
+      (id : ℕ) (v : LaneView) (i : ℕ) → get_elem? s.views id ≡ some v → v.guest ≡ Some i
+      → (i < dealt) × (v.seen ≡ seen i)
+  pub one_guest :
+      (id other : ℕ) (v u : LaneView) (i : ℕ) → get_elem? s.views id ≡ some v
+      → get_elem? s.views other ≡ some u → v.guest ≡ Some i → u.guest ≡ Some i
+      → id ≡ other
+  pub fresh : (i : ℕ) → dealt ≤ i → seen i ≡ []
+  pub few : dealt ≤ p.seats
+  pub dealer :
+      (id : ℕ) (v : LaneView) (d : ℕ) → get_elem? s.views id ≡ some v → v.dealer ≡ Some d → d ≡ dealt
+  pub one_dealer :
+      (id other : ℕ) (v u : LaneView) (d d' : ℕ) → get_elem? s.views id ≡ some v
+      → get_elem? s.views other ≡ some u → v.dealer ≡ Some d → u.dealer ≡ Some d'
+      → id ≡ other
+
+-- ---- the steps
+
+-- the handle of a lane that is taken out, and what it knows
+pub record HasTaken (lane : ℕ) (before after : Me (Option HandleOf) LaneView) : Type 0 where
+  pub handle : HandleOf
+  pub knew : List Event
+  pub outs : after.0.outs ≡ record { lane = lane; knew = knew } ∷ before.0.outs
+  pub slots : after.1 ≡ (lane, Some handle) ∷ before.1
+  pub one : IsLane after.0.map lane handle
+  pub knows : KnowsIn after.0.filled after.0.past handle.seat knew
+  -- what its map went on from
+  pub epoch : EpochIn
+  pub begun : (after.0.filled ≡ epoch.filled) × (after.0.past ≡ epoch.past)
+  pub guest :
+      (after.0.guest ≡ before.0.guest) × (after.0.seen ≡ before.0.seen)
+      × (after.0.dealer ≡ before.0.dealer)
+  -- a guest that takes its own lane's handle has seen what it knows
+  pub mine : before.0.guest ≡ Some lane → IsCurrent lane before.0.seen knew
+  -- who had others still has them, of the same map
+  pub same :
+      before.0.outs ≢ []
+      → (after.0.map ≡ before.0.map) × (after.0.filled ≡ before.0.filled)
+      × (after.0.past ≡ before.0.past)
+
+abbrev pub Takes :
+    Step (Option HandleOf) → Me (Option HandleOf) LaneView → ℕ → Me (Option HandleOf) LaneView → Type 0
+Takes step before found after =
+    (found ≡ 0 → HasTaken step.word before after) × (found ≢ 0 → after ≡ before)
+
+-- the token has this lane's handle, taken last, which has gone on to this log
+pub record Holds (lane : ℕ) (knew whole : List Event) (handle : HandleOf)
+    (me : Me (Option HandleOf) LaneView) : Type 0 where
+  pub outs : List Out
+  pub view : me.0.outs ≡ record { lane = lane; knew = knew } ∷ outs
+  pub slot : me.1 ≡ (lane, Some handle) ∷ rest me.1
+  pub one : IsLane me.0.map lane handle
+  pub knows : KnowsIn me.0.filled me.0.past handle.seat whole
+
+-- what it knows when it has given that back, and has seen this log
+abbrev pub given : LaneView → List Out → (seen : List Event) → LaneView
+given v outs seen = record v { outs = outs; seen = seen }
+
+-- the lanes are out, and what they knew is this log now
+abbrev pub all_knew : List Event → List Out → List Out
+all_knew whole [] = []
+all_knew whole (out ∷ outs) = record { lane = out.lane; knew = whole } ∷ all_knew whole outs
+
+-- what it knows when it has given back the last lane's handle, of a new map
+abbrev pub given_anew : LaneView → List Out → MapOf → (filled past : List Event) → LaneView
+given_anew v outs m filled past =
+    record v { outs = all_knew past outs; map = m; filled = filled; past = past }
+
+-- The token has all lanes' handles, the last taken of which is given back, of a new map. That one
+-- knows the log of all calls, which goes on from what each lane's handle knew, by no call of it.
+pub record HoldsAnew (p : Plan) (lane : ℕ) (knew : List Event) (handle : HandleOf) (next : EpochIn)
+    (me : Me (Option HandleOf) LaneView) : Type 0 where
+  pub outs : List Out
+  pub view : me.0.outs ≡ record { lane = lane; knew = knew } ∷ outs
+  pub slot : me.1 ≡ (lane, Some handle) ∷ rest me.1
+  pub number : handle.seat.chain.number ≡ lane
+  pub alone : handle.reserve ≡ []
+  pub knows : KnowsIn next.filled next.past handle.seat next.past
+  pub all : (i : ℕ) → i < p.seats → 1 ≤ times_out i me.0.outs
+  pub met : (out : Out) → Has out me.0.outs → HasGoneOnBy out.lane (log_of out.knew) (log_of next.past) []
+
+-- ---- what a step tells
+
+-- the one log that a seat knows, of a map that was filled by this log and went on from that
+abbrev pub known_of : (filled past : List Event) → SeatOf → List Event
+known_of filled past seat =
+    as_events (take (length (log seat) - length (log_of filled)) (log seat) ++ log_of past)
+
+-- the same of the handle that was taken last
+abbrev pub known_in : LaneView → List (ℕ × Option HandleOf) → List Event
+known_in v [] = v.seen
+known_in v ((lane, None) ∷ slots) = v.seen
+known_in v ((lane, Some handle) ∷ slots) = known_of v.filled v.past handle.seat
+
+-- the map of that handle
+abbrev pub map_in : MapOf → List (ℕ × Option HandleOf) → MapOf
+map_in m [] = m
+map_in m ((lane, None) ∷ slots) = m
+map_in m ((lane, Some handle) ∷ slots) = handle.map
+
+-- the log of that handle
+abbrev pub log_in : List (ℕ × Option HandleOf) → List Entry
+log_in [] = []
+log_in ((lane, None) ∷ slots) = []
+log_in ((lane, Some handle) ∷ slots) = log handle.seat
+
+-- the lanes that are out but for the one taken last
+abbrev pub rest_outs : List Out → List Out
+rest_outs [] = []
+rest_outs (out ∷ outs) = outs
+
+-- a guest gives its handle back, and has seen all that this knows
+abbrev pub HasGiven : (before after : Me (Option HandleOf) LaneView) → Type 0
+HasGiven before after =
+    (after.0 ≡ given before.0 (rest_outs before.0.outs) (known_in before.0 before.1))
+    × (after.1 ≡ rest before.1)
+
+abbrev pub Gives :
+    Step (Option HandleOf) → Me (Option HandleOf) LaneView → ℕ → Me (Option HandleOf) LaneView → Type 0
+Gives step before found after = HasGiven before after
+
+-- a handle of the same map is given back after a renewal
+abbrev pub HasDealt : (before after : Me (Option HandleOf) LaneView) → Type 0
+HasDealt before after =
+    (after.0 ≡ given before.0 (rest_outs before.0.outs) before.0.seen) × (after.1 ≡ rest before.1)
+
+abbrev pub Deals :
+    Step (Option HandleOf) → Me (Option HandleOf) LaneView → ℕ → Me (Option HandleOf) LaneView → Type 0
+Deals step before found after = HasDealt before after
+
+-- the first handle of a new map is given back; the next epoch goes on from what each lane's handle
+-- knew
+abbrev pub HasBegunAnew : (before after : Me (Option HandleOf) LaneView) → Type 0
+HasBegunAnew before after =
+    (next : EpochIn) × (log_in before.1 ≡ log_of next.filled)
+    × ((out : Out) → Has out before.0.outs
+    → HasGoneOnBy out.lane (log_of out.knew) (log_of next.past) [])
+    × (after.0 ≡ given_anew before.0 (rest_outs before.0.outs) (map_in before.0.map before.1) next.filled next.past)
+    × (after.1 ≡ rest before.1)
+
+abbrev pub Renews :
+    Step (Option HandleOf) → Me (Option HandleOf) LaneView → ℕ → Me (Option HandleOf) LaneView → Type 0
+Renews step before found after = HasBegunAnew before after
+
+-- ---- the first token, and others
+
+abbrev pub no_id : TableId
+no_id = record {
+  words = 0;
+  slots = 0;
+  views_name = 0;
+  atom = 0;
+  block = 0;
+  offset = 0;
+  slot_names = [];
+}
+
+abbrev pub no_map : Plan → MapOf
+no_map p = record {
+  chain = record { id = no_id; shape = p };
+  counter = record { id = no_id; stripes = 0; seats = 0 };
+}
+
+-- the first token has no lane, and makes the guests
+abbrev pub first_lane_view : Plan → LaneView
+first_lane_view p = record {
+  guest = None;
+  dealer = Some 0;
+  seen = [];
+  map = no_map p;
+  filled = [];
+  past = [];
+  outs = [];
+}
+
+-- it makes one, which has the next lane
+abbrev pub next_dealer : Option ℕ → Option ℕ
+next_dealer None = None
+next_dealer (Some d) = Some (suc d)
+
+abbrev pub dealer_left : LaneView → LaneView
+dealer_left v = record v { dealer = next_dealer v.dealer }
+
+abbrev pub new_guest : LaneView → LaneView
+new_guest v = record {
+  guest = v.dealer;
+  dealer = None;
+  seen = [];
+  map = v.map;
+  filled = [];
+  past = [];
+  outs = [];
+}

@@ -1,0 +1,152 @@
+//! The map is made anew while threads call: who does it takes all lanes' handles as they come home.
+ghost use Rattle.std.specs.Prelude.{IfOk, OnErr, ◌+◌, ◌<◌, ◌≤◌, ◌≡◌, false, length, true, vec_capacity};
+ghost use Rattle.nb_lasting.specs.Renewal.{CanDealAnew, CanDealBelow, HoldsBelow, IsIdleToken, IsSameGuest};
+
+use crate::gathered::parted_anew;
+use crate::shared::{Row, Token, give_anew, give_back, hold};
+use nb_core::{OutOfMemory, Shape};
+use nb_map::{Handle, RenewFault};
+use std::alloc::Global;
+use std::sync::Wait;
+
+/// Takes a lane's handle out of its slot, to those of the lanes below.
+fn gather<R: Wait>(rt: &R, row: &Row, token: &mut Token, handles: &mut Vec<Handle>, lane: usize)
+    requires table { token.old.table_id ≡ row.now.table_id }
+    requires lane { lane < row.now.key.seats }
+    requires words { row.now.table_id.words ≡ row.now.key.seats }
+    requires room { length handles.old.items < vec_capacity handles.old }
+    requires holds { HoldsBelow lane token.old.me handles.old.items }
+    ensures table { token.new.table_id ≡ token.old.table_id }
+    ensures guest { IsSameGuest token.old.me.0 token.new.me.0 }
+    ensures room { vec_capacity handles.new ≡ vec_capacity handles.old }
+    ensures holds { HoldsBelow (lane + 1) token.new.me handles.new.items }
+{
+    hold(rt, row, token, lane);
+    let Some(handle) = row.exchange(token, lane, None) else {
+        unreachable!();
+    };
+    handles.push_reserved(handle);
+}
+
+/// Puts the last handle back into its slot.
+fn deal(row: &Row, token: &mut Token, handles: &mut Vec<Handle>, lane: usize)
+    requires table { token.old.table_id ≡ row.now.table_id }
+    requires lane { lane < row.now.key.seats }
+    requires words { row.now.table_id.words ≡ row.now.key.seats }
+    requires holds { CanDealBelow (lane + 1) token.old.me handles.old.items }
+    ensures table { token.new.table_id ≡ token.old.table_id }
+    ensures guest { IsSameGuest token.old.me.0 token.new.me.0 }
+    ensures holds { CanDealBelow lane token.new.me handles.new.items }
+{
+    let Some(handle) = handles.pop() else {
+        unreachable!();
+    };
+    row.exchange(token, lane, Some(handle));
+    give_back(row, token, lane);
+}
+
+/// The same of the last lane of all, where the handles are those of a new map.
+fn deal_anew(row: &Row, token: &mut Token, handles: &mut Vec<Handle>, lane: usize)
+    requires table { token.old.table_id ≡ row.now.table_id }
+    requires lane { lane + 1 ≡ row.now.key.seats }
+    requires words { row.now.table_id.words ≡ row.now.key.seats }
+    requires holds { CanDealAnew (lane + 1) token.old.me handles.old.items }
+    ensures table { token.new.table_id ≡ token.old.table_id }
+    ensures guest { IsSameGuest token.old.me.0 token.new.me.0 }
+    ensures holds { CanDealBelow lane token.new.me handles.new.items }
+{
+    let Some(handle) = handles.pop() else {
+        unreachable!();
+    };
+    row.exchange(token, lane, Some(handle));
+    give_anew(row, token, lane);
+}
+
+/// Takes the handles of all lanes.
+fn gather_all<R: Wait>(
+    rt: &R,
+    row: &Row,
+    token: &mut Token,
+    alloc: Global,
+    seats: usize,
+) -> Result<Vec<Handle>, OutOfMemory>
+    requires table { token.old.table_id ≡ row.now.table_id }
+    requires seats { seats ≡ row.now.key.seats }
+    requires words { row.now.table_id.words ≡ row.now.key.seats }
+    requires idle { IsIdleToken token.old.me }
+    ensures table { token.new.table_id ≡ token.old.table_id }
+    ensures guest { IsSameGuest token.old.me.0 token.new.me.0 }
+    ensures holds { IfOk result (λ handles. HoldsBelow seats token.new.me handles.items) }
+    ensures kept { OnErr result (token.new.me ≡ token.old.me) }
+{
+    let mut handles = Vec::with_capacity(alloc, seats)?;
+    for lane in 0..seats {
+        gather(rt, row, token, &mut handles, lane);
+    }
+    Ok(handles)
+}
+
+/// Puts the handles of all lanes back.
+fn deal_all(row: &Row, token: &mut Token, handles: Vec<Handle>)
+    requires table { token.old.table_id ≡ row.now.table_id }
+    requires lanes { length handles.items ≤ row.now.key.seats }
+    requires words { row.now.table_id.words ≡ row.now.key.seats }
+    requires holds { CanDealBelow (length handles.items) token.old.me handles.items }
+    ensures table { token.new.table_id ≡ token.old.table_id }
+    ensures guest { IsSameGuest token.old.me.0 token.new.me.0 }
+    ensures idle { IsIdleToken token.new.me }
+{
+    let mut handles = handles;
+    let count = handles.len();
+    for done in 0..count {
+        deal(row, token, &mut handles, count - 1 - done);
+    }
+}
+
+/// Puts the handles of all lanes back, of a new map or of the map that there was.
+fn deal_renewed(row: &Row, token: &mut Token, handles: Vec<Handle>, renewed: bool)
+    requires table { token.old.table_id ≡ row.now.table_id }
+    requires lanes { length handles.items ≡ row.now.key.seats }
+    requires some { 1 ≤ row.now.key.seats }
+    requires words { row.now.table_id.words ≡ row.now.key.seats }
+    requires anew { renewed ≡ true
+        → CanDealAnew (length handles.items) token.old.me handles.items }
+    requires as_before { renewed ≡ false
+        → CanDealBelow (length handles.items) token.old.me handles.items }
+    ensures table { token.new.table_id ≡ token.old.table_id }
+    ensures guest { IsSameGuest token.old.me.0 token.new.me.0 }
+    ensures idle { IsIdleToken token.new.me }
+{
+    let mut handles = handles;
+    if renewed {
+        let lane = handles.len() - 1;
+        deal_anew(row, token, &mut handles, lane);
+        deal_all(row, token, handles);
+    } else {
+        deal_all(row, token, handles);
+    }
+}
+
+/// Makes the map anew while other threads call: waits for each lane, and gives all back. The token's
+/// guest has called nothing by it.
+pub(crate) fn renew_through<R: Wait>(
+    rt: &R,
+    row: &Row,
+    token: &mut Token,
+    alloc: Global,
+    shape: Shape,
+) -> Result<(), RenewFault>
+    requires table { token.old.table_id ≡ row.now.table_id }
+    requires words { row.now.table_id.words ≡ row.now.key.seats }
+    requires shape { shape.seats ≡ row.now.key.seats }
+    requires idle { IsIdleToken token.old.me }
+    ensures table { token.new.table_id ≡ token.old.table_id }
+    ensures guest { IsSameGuest token.old.me.0 token.new.me.0 }
+    ensures idle { IsIdleToken token.new.me }
+{
+    let seats = shape.seats();
+    let handles = gather_all(rt, row, token, alloc, seats)?;
+    let (handles, renewed) = parted_anew(rt, alloc, handles, shape);
+    deal_renewed(row, token, handles, renewed.is_ok());
+    renewed
+}
