@@ -641,11 +641,14 @@ def crowd():
 
 
 def churn():
-    """Overwriting, removing, expiring and evicting at once: each value that is read is one that was written at its key."""
+    """Overwriting, removing, expiring and evicting at once: each value that is read is one that was written at its key. A write may be
+    refused where all that it would evict goes just then."""
+    refusal = b"-OOM command not allowed when used memory > 'maxmemory'"
     with Server("--threads", 4, "--memory", "30k", "--sweep", 10, "--hash-bits", 9) as server:
 
         def body(i):
             chance = random.Random(i)
+            refused = 0
             with server.connect() as client:
                 for _ in range(many(30)):
                     keys = [b"k%d" % chance.randrange(2000) for _ in range(100)]
@@ -653,11 +656,14 @@ def churn():
                                              request("SET", key, key, "PX", chance.randrange(1, 30))]) for key in keys]
                     client.send(b"".join(writes) + b"".join(request("GET", key) for key in keys))
                     for _ in keys:
-                        assert client.line() in (b"+OK", b":0", b":1")
+                        line = client.line()
+                        assert line in (b"+OK", b":0", b":1", refusal), f"{line!r}"
+                        refused += line == refusal
                     for key in keys:
                         size = int(client.line()[1:])
                         value = client.receive(size + 2)[:-2] if size >= 0 else b""
                         assert value == key * (len(value) // len(key)), f"{value!r} at {key!r}"
+            assert refused <= 5 * many(30), f"{refused} writes refused"
 
         at_once(8, body)
         with server.connect() as client:
