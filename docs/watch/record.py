@@ -12,10 +12,12 @@ import sys
 
 sys.dont_write_bytecode = True
 from story import CHUNK, EXPONENTS, OPTIONS, STORY, WORKERS
-from tracer import Program
+from tracer import Program, may_trace
 
 PAGE = pathlib.Path(__file__).resolve().parent.parent / "watch.html"
 PROGRAM = PAGE.parent.parent / "crates" / "nb_run" / "out" / "nb_run"
+# The status where the system lets no process be traced.
+MAY_NOT_TRACE = 3
 BEGIN, END = '<script type="application/json" id="trace">\n', "</script>"
 
 
@@ -197,6 +199,8 @@ def difference(there, text):
 
 
 def main():
+    if not may_trace():
+        return MAY_NOT_TRACE
     if "--print" in sys.argv[1:]:
         print(recorded(PROGRAM), end="")
         return 0

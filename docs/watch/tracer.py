@@ -23,6 +23,14 @@ LIBC.ptrace.argtypes = [ctypes.c_long, ctypes.c_long, ctypes.c_void_p, ctypes.c_
 LIBC.ptrace.restype = ctypes.c_long
 
 
+def may_trace():
+    """Whether a process may be traced here."""
+    child = os.fork()
+    if child == 0:
+        os._exit(0 if LIBC.ptrace(TRACE_ME, 0, None, None) == 0 else 1)
+    return os.waitstatus_to_exitcode(os.waitpid(child, 0)[1]) == 0
+
+
 def ptrace(request, thread, address=None, data=None):
     if LIBC.ptrace(request, thread, address, data) == -1:
         raise OSError(ctypes.get_errno(), "ptrace")
