@@ -3,20 +3,23 @@ use Rattle.std.proofs.Common.{◌≡◌, ◌∙◌, ◌++◌, ℕ, List, [], ◌
 use Rattle.std.specs.Prelude.{Err, None, Ok, Option, Result, unwrap_or}
 use Rattle.std.proofs.lemmas.List.{append_assoc}
 use Rattle.atomic_table.specs.Table.{Me, rest}
-use Rattle.nb_core.specs.Log.{Entry, IsReplayed, calls_of, log_of}
+use Rattle.nb_core.specs.Calls.{overflows}
+use Rattle.nb_core.specs.Log.{Entry, IsReplayed, calls_of, log_of, map_of_log}
 use Rattle.nb_core.specs.declared.calls.Call.{Call}
 use Rattle.nb_core.specs.declared.calls.Reply.{Reply}
 use Rattle.nb_core.specs.declared.events.Event.{Event}
 use Rattle.nb_map.specs.Handles.{HandleOf, KeepsRest}
 use Rattle.nb_map.specs.Logs.{HasLogged, log}
 use Rattle.nb_map.specs.Maps.{MapOf, SeatOf}
-use Rattle.nb_map.specs.Progress.{Unlimited}
-use Rattle.nb_map.specs.Promises.{HasWritten, found_or_full}
-use Rattle.nb_map.specs.declared.faults.Full.{Full}
-use Rattle.nb_lasting.proofs.Epochs.{goes_on, replays}
+use Rattle.nb_map.specs.Progress.{Limit}
+use Rattle.nb_map.specs.Promises.{HasWritten, replied_or_refused}
+use Rattle.nb_map.specs.Refusals.{IsJust}
+use Rattle.nb_map.specs.declared.faults.PutFault.TheVariants as put_fault
+use Rattle.nb_map.specs.declared.faults.PutFault.{PutFault}
+use Rattle.nb_lasting.proofs.Epochs.{goes_on, leaves, replays}
 use Rattle.nb_lasting.proofs.Sharing.{known-of, log-as-events}
 use Rattle.nb_lasting.specs.Epochs.{HasGoneOnBy}
-use Rattle.nb_lasting.specs.Holding.{CanGive, HasCalledIn, HasPutIn, IsIdleGuest}
+use Rattle.nb_lasting.specs.Holding.{CanGive, HasCalledIn, HasWrittenIn, IsIdleGuest, IsJustIn}
 use Rattle.nb_lasting.specs.Shared.{EpochIn, HasGiven, HasTaken, Holds, IsLane, KnowsIn, as_events, known_in, known_of, rest_outs}
 use Rattle.nb_lasting.specs.declared.shared.LaneView.{LaneView}
 
@@ -112,6 +115,16 @@ module _
         ap (λ (v : LaneView). v.seen) given.0
         ∙ ap (λ (m : Me (Option HandleOf) LaneView). known_in m.0 m.1) is
 
+    -- what it has seen leaves the map that the handle's log leaves
+    pub map-is : map_of_log (log_of after.0.seen) ≡ map_of_log (log handle.seat)
+    map-is =
+        let same : map_of_log (log_of mid.0.past) ≡ map_of_log (log_of mid.0.filled) =
+        ap (λ (l : List Event). map_of_log (log_of l)) taken.begun.1 ∙ sym taken.epoch.same
+        ∙ sym (ap (λ (l : List Event). map_of_log (log_of l)) taken.begun.0) in
+        ap (λ (l : List Event). map_of_log (log_of l)) seen-is ∙ ap map_of_log goes.0.is
+        ∙ leaves goes.0.later (log_of mid.0.past) (log_of mid.0.filled) same
+        ∙ sym (ap map_of_log goes.0.here)
+
     pub idle-again : IsIdleGuest lane after
     idle-again = record {
       guest = ap (λ (v : LaneView). v.guest) given.0 ∙ can-give.guest;
@@ -155,19 +168,26 @@ pub taken-is :
 taken-is lane before mid taken y handle found is =
     ap (λ o. unwrap_or o handle) (ap head_of (sym taken.slots ∙ found) ∙ is)
 
--- ---- a put
+-- ---- a write
 
 -- its calls, and what they tell of the answer
-pub put-logged :
-    (m : MapOf) (call : Call) (before after : SeatOf) (result : Result (Option ℕ) Full)
-    → HasWritten m call before after Unlimited (found_or_full result)
+pub write-logged :
+    (m : MapOf) (call : Call) (before after : SeatOf) (limit : Limit)
+    (result : Result Reply PutFault) → HasWritten m call before after limit (replied_or_refused result)
     → (made : List (Call × Reply)) × HasLogged before after made
-    × ((lane : ℕ) (old new : LaneView) → HasCalledIn lane old new made → HasPutIn lane old new call result)
-put-logged m call before after (Ok found) wrote =
-    let answered = wrote.answered in (
-      (call, answered.0) ∷ [],
-      answered.2,
-      λ lane old new called. (answered.0, answered.1, called),
-    )
-put-logged m call before after (Err full) wrote =
-    ([], wrote.answered.unmade, λ lane old new called. called)
+    × ((lane : ℕ) (old new : LaneView) → HasCalledIn lane old new made
+    → map_of_log (log_of new.seen) ≡ map_of_log (log after) → HasWrittenIn lane old new call result)
+write-logged m call before after limit (Ok reply) wrote =
+    ((call, reply) ∷ [], wrote.answered, λ lane old new called same. called)
+write-logged m call before after limit (Err fault) wrote = (
+  [],
+  wrote.answered.unmade,
+  λ lane old new called same. (called, just fault wrote.answered.just new same),
+)
+  where
+    just : (fault : PutFault) → IsJust m.chain.shape call before.chain after.chain limit fault
+        → (new : LaneView) → map_of_log (log_of new.seen) ≡ map_of_log (log after)
+        → IsJustIn call (log_of new.seen) fault
+    just put_fault.Full is new same = is.0
+    just put_fault.Contended is new same = tt
+    just put_fault.ValueRange is new same = ap (overflows call) same ∙ is

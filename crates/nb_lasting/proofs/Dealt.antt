@@ -1,6 +1,6 @@
 -- What a renewer's token holds, from step to step.
-use Rattle.std.proofs.Common.{◌≡◌, ◌≢◌, ◌∙◌, ◌+◌, ◌++◌, ◌<◌, ◌≤◌, ◌==◌, ◌⊎◌, ℕ, zero, suc, Bool, true, false, if◌then◌else◌, List, [], ◌∷◌, Some, ap, inl, inr, length, length-append, refl, slice_get, subst, sym, arith}
-use Rattle.std.specs.Prelude.{Err, None, Ok, Option, Result, ⊤, is_ok, unwrap_or}
+use Rattle.std.proofs.Common.{◌≡◌, ◌≢◌, ◌∙◌, ◌+◌, ◌++◌, ◌<◌, ◌≤◌, ◌==◌, ◌⊎◌, ℕ, zero, suc, Bool, true, false, if◌then◌else◌, List, [], ◌∷◌, All, Some, ap, inl, inr, length, length-append, refl, slice_get, subst, sym, arith}
+use Rattle.std.specs.Prelude.{Err, None, Ok, OnOk, Option, Result, ⊤, is_ok, unwrap_or}
 use Rattle.std.proofs.lemmas.Option.{slice_get_within}
 use Rattle.atomic_table.specs.Table.{Me, rest}
 use Rattle.nb_core.specs.Log.{log_of}
@@ -12,18 +12,24 @@ use Rattle.nb_map.specs.Maps.{MapOf}
 use Rattle.nb_lasting.proofs.Calling.{taken-is}
 use Rattle.nb_lasting.proofs.Sharing.{Same, anew-log, current_here, decided, times_else, times_here, with-else, with-here, with_current}
 use Rattle.nb_lasting.specs.Epochs.{HasGoneOnBy}
-use Rattle.nb_lasting.specs.Holding.{CanDeal, CanRenew}
+use Rattle.nb_lasting.specs.Closing.{HasGathered}
+use Rattle.nb_lasting.specs.Holding.{CanDeal, CanRenew, IsIdleGuest}
 use Rattle.nb_map.specs.declared.faults.RenewFault.{RenewFault}
 use Rattle.nb_lasting.proofs.Renewed.{all-from, renewed-all}
 use Rattle.nb_lasting.specs.Gathered.{AreSingle, IsPartedAnew, IsSingle}
-use Rattle.nb_lasting.specs.Renewal.{AreAnew, AreHeld, AreRenewed, CanDealAnew, CanDealBelow, HoldsBelow, IsIdleToken, blanks, down}
-use Rattle.nb_lasting.specs.Shared.{EpochIn, Has, HasBegunAnew, HasDealt, HasTaken, Holds, HoldsAnew, IsCurrent, IsLane, KnowsIn, all_knew, given, given_anew, log_in, map_in, rest_outs, times_out}
+use Rattle.nb_lasting.specs.Renewal.{AreAnew, AreHeld, AreRenewed, CanDealAnew, CanDealBelow, CanDealShaped, HoldsBelow, IsIdleToken, blanks, down}
+use Rattle.nb_lasting.specs.Shared.{EpochIn, Has, HasBegunAnew, HasDealt, HasTaken, Holds, HoldsAnew, IsCurrent, IsLane, IsOfGuest, FitsLanes, KnowsIn, all_knew, as_guest, given, given_anew, log_in, map_in, rest_outs, times_out}
 use Rattle.nb_lasting.specs.declared.shared.Out.{Out}
 use Rattle.nb_lasting.specs.declared.shared.LaneView.{LaneView}
 
 -- ---- lists
 
-snoc_cases :
+pub there_is : {X : Type 0} (xs : List X) (i : ℕ) → i < length xs → (x : X) × (slice_get xs i ≡ Some x)
+there_is [] i below = absurd (omega (arith, below))
+there_is (x ∷ xs) zero below = (x, refl)
+there_is (x ∷ xs) (suc i) below = there_is xs i (omega (arith, below))
+
+pub snoc_cases :
     {X : Type 0} (xs : List X) (y : X) (i : ℕ) (x : X) → slice_get (xs ++ y ∷ []) i ≡ Some x
     → (slice_get xs i ≡ Some x) ⊎ ((i ≡ length xs) × (y ≡ x))
 snoc_cases [] y zero x at = inr (refl, ap (λ o. unwrap_or o x) at)
@@ -182,6 +188,38 @@ gathered lane before after handles handle new holds taken found is = record {
                   (sym view) taken.knows),
             ))
 
+-- a handle is gathered by the lane's guest, whose place the token has
+module _
+    (lane : ℕ) (before mid after new : Me (Option HandleOf) LaneView) (guest : Me (Option HandleOf) LaneView)
+    (handles : List HandleOf) (handle : HandleOf) (idle : IsIdleGuest lane guest)
+    (became : mid ≡ (as_guest before.0 guest.0, before.1)) (taken : HasTaken lane mid after)
+    (found : after.1 ≡ (lane, Some handle) ∷ rest after.1)
+    (is : new ≡ (after.0, (lane, None) ∷ rest after.1)) (holds : HoldsBelow lane before handles) where
+  -- in the guest's place it holds what it held
+  abbrev held-by : HoldsBelow lane (as_guest before.0 guest.0, before.1) handles
+  held-by = record {
+    knew = holds.knew;
+    epoch = holds.epoch;
+    outs = holds.outs;
+    slots = holds.slots;
+    begun = holds.begun;
+    held = holds.held;
+  }
+
+  taken-so : HasTaken lane (as_guest before.0 guest.0, before.1) after
+  taken-so = subst (λ m. HasTaken lane m after) became taken
+
+  pub gathered-from : HasGathered lane guest.0.seen holds.knew new (handles ++ handle ∷ [])
+  unfolding gathered
+  gathered-from = record {
+    holds = gathered lane (as_guest before.0 guest.0, before.1) after handles handle new held-by
+        taken-so found is;
+    here = subst (IsCurrent lane guest.0.seen) (sym (with-here holds.knew lane taken-so.knew))
+        (taken-so.mine idle.guest);
+    below = λ i less.
+        with-else holds.knew lane i taken-so.knew (λ same. absurd (omega (arith, same, less)));
+  }
+
 -- ---- a handle is dealt
 
 -- a vector's last handle, and the others
@@ -286,6 +324,8 @@ module _
           slot = new-slot;
           number = one.0.number;
           alone = one.0.alone;
+          fits = ap (λ (m : MapOf). m.chain.shape.seats) one.0.map ∙ can.anew.fits ∙ last;
+          made = subst (λ n. All (IsOfGuest n) (log_of can.anew.next.past)) last can.anew.made;
           knows = one.1;
           all = λ i below. subst (λ (outs : List Out). 1 ≤ times_out i outs) (sym outs)
               (down_all can.knew (lane + 1) i (omega (arith, below, last)));
@@ -295,6 +335,14 @@ module _
               (sym is-out.1) (can.anew.met out.lane is-out.0);
         };
       }
+
+  pub begun-map :
+      (can : CanDealAnew (lane + 1) me before) → HasBegunAnew new after
+      → after.0.map ≡ can.anew.shared
+  begun-map can gone =
+      let both = popped lane can.anew.shared can.anew.next.filled can.anew.next.past
+      (λ _. can.anew.next.past) handles before handle popped-is can.anew.held in
+      ap (λ (v : LaneView). v.map) gone.3 ∙ ap (map_in new.0.map) new-slot ∙ both.1.0.map
 
   pub begun :
       CanDealAnew (lane + 1) me before → HasBegunAnew new after → CanDealBelow lane after handles
@@ -350,6 +398,22 @@ holds-none me handles none idle = record {
   };
 }
 
+-- handles that have called nothing can be dealt
+pub as-held :
+    (n : ℕ) (me : Me (Option HandleOf) LaneView) (handles : List HandleOf) → HoldsBelow n me handles
+    → CanDealBelow (length handles) me handles
+as-held n me handles holds =
+    subst (λ k. CanDealBelow k me handles) (sym holds.held.count) (record {
+      knew = holds.knew;
+      know = holds.knew;
+      outs = holds.outs;
+      slots = holds.slots;
+      held = holds.held;
+      current = λ i below.
+          let one = there_is handles i (omega (arith, below, holds.held.count)) in
+          current_here i (holds.knew i) (holds.held.each i one.0 one.1).1.replayed;
+    })
+
 pub dealt-all :
     (n : ℕ) (me : Me (Option HandleOf) LaneView) (handles : List HandleOf) → n ≡ 0
     → CanDealBelow n me handles → IsIdleToken me
@@ -357,6 +421,10 @@ dealt-all n me handles none can = record {
   outs = can.outs ∙ ap (down can.knew) none;
   slots = can.slots ∙ ap blanks none;
 }
+
+pub on_ok : {A B P : Type 0} (result : Result A B) → (is_ok result ≡ true → P) → OnOk result P
+on_ok (Ok x) holds = holds refl
+on_ok (Err fault) holds = tt
 
 -- ---- all handles are made one
 
@@ -372,21 +440,29 @@ all-single n me handles some few holds = record {
   few = omega (arith, few, holds.held.count);
 }
 
+pub single-map :
+    (n : ℕ) (me : Me (Option HandleOf) LaneView) (handles : List HandleOf) (some : 1 ≤ n)
+    (few : n ≤ 256) (holds : HoldsBelow n me handles)
+    → (all-single n me handles some few holds).shared ≡ me.0.map
+unfolding all-single
+single-map n me handles some few holds = refl
+
 module _
     (p : Plan) (me : Me (Option HandleOf) LaneView) (before after : List HandleOf) (some : 1 ≤ p.seats)
-    (few : p.seats ≤ 256) (holds : HoldsBelow p.seats me before) where
+    (few : p.seats ≤ 256) (seated : FitsLanes p.seats me.0) (holds : HoldsBelow p.seats me before) where
   -- what a renewal makes of them, in the words of the token
   renewed-by :
       (result : Result ⊤ RenewFault) → IsPartedAnew p before after result
-      → AreRenewed me.0.map me.0.filled me.0.past p.seats holds.knew after result
+      → AreRenewed p me.0.map me.0.filled me.0.past holds.knew after result
   unfolding all-single
   renewed-by result is =
       let begun = holds.begun (omega (arith, some)) in
-      subst (λ (f : List Event). AreRenewed me.0.map f me.0.past p.seats holds.knew after result)
+      subst (λ (f : List Event). AreRenewed p me.0.map f me.0.past holds.knew after result)
       (sym begun.0)
-      (subst (λ (l : List Event). AreRenewed me.0.map holds.epoch.filled l p.seats holds.knew after
-      result) (sym begun.1)
+      (subst (λ (l : List Event). AreRenewed p me.0.map holds.epoch.filled l holds.knew after result)
+      (sym begun.1)
       (renewed-all p me.0.map holds.epoch holds.knew before after
+      (subst (λ (l : List Event). All (IsOfGuest p.seats) (log_of l)) begun.1 seated.made)
       (subst (λ (f : List Event). AreHeld me.0.map f holds.epoch.past p.seats holds.knew before) begun.0
       (subst (λ (l : List Event). AreHeld me.0.map me.0.filled l p.seats holds.knew before) begun.1
       holds.held))
@@ -395,18 +471,21 @@ module _
   pub deals :
       (result : Result ⊤ RenewFault) → IsPartedAnew p before after result
       → (length after ≡ p.seats)
-      × (is_ok result ≡ true → CanDealAnew (length after) me after)
+      × (is_ok result ≡ true → CanDealShaped p (length after) me after)
       × (is_ok result ≡ false → CanDealBelow (length after) me after)
   deals (Ok done) is =
       let anew = (renewed-by (Ok done) is).0 in
-      let count = anew.held.count in (
+      let count = anew.0.held.count in (
         count,
-        (λ good. subst (λ n. CanDealAnew n me after) (sym count) (record {
-          knew = holds.knew;
-          outs = holds.outs;
-          slots = holds.slots;
-          anew = anew;
-        })),
+        (λ good. subst (λ n. CanDealShaped p n me after) (sym count) (
+          record {
+            knew = holds.knew;
+            outs = holds.outs;
+            slots = holds.slots;
+            anew = anew.0;
+          },
+          anew.1,
+        )),
         (λ bad. absurd cc),
       )
   deals (Err fault) is =

@@ -15,7 +15,7 @@ use Rattle.nb_map.specs.Renewing.{HasRenewed}
 use Rattle.nb_lasting.specs.Epochs.{AllKnow, EpochOf, HasGoneOnBy, HaveMetIn, IsOfEpoch, Knows, OneLogForAll}
 
 -- the same calls after two logs that leave one map leave one map
-leaves :
+pub leaves :
     (later first first' : List Entry) → map_of_log first ≡ map_of_log first'
     → map_of_log (later ++ first) ≡ map_of_log (later ++ first')
 leaves [] first first' same = same

@@ -2,6 +2,9 @@ pub mod Alone
 pub mod Epochs
 pub mod Sharing
 pub mod Joined
+pub mod Merging
+pub mod Closed
+pub mod Visiting
 pub mod Renewed
 pub mod Dealt
 pub mod Calling

@@ -3,12 +3,14 @@ use Rattle.std.proofs.Common.{◌≡◌, ◌∙◌, ◌+◌, ◌++◌, ◌<◌, 
 use Rattle.std.specs.List.{AllZip, range_with_len}
 use Rattle.std.specs.Prelude.{Err, IfErr, IfOk, None, Ok, Option, Result, ⊤, get_or, option_map, unwrap_or}
 use Rattle.std.proofs.lemmas.List.{length-map}
-use Rattle.std.proofs.lemmas.List.Elements.{All-cons, All-head, All-nil, All-tail}
+use Rattle.std.proofs.lemmas.List.Elements.{All-append, All-cons, All-head, All-nil, All-tail}
 use Rattle.std.proofs.lemmas.List.FromFn.{get_or-range_with_len, length-range_with_len}
 use Rattle.std.proofs.lemmas.Option.{get_or_from_slice_get, slice_get-get_or, slice_get-map, slice_get_within}
+use Rattle.nb_core.proofs.Seating.{All-left}
 use Rattle.nb_core.specs.Log.{Entry, IsReplayed, log_of, map_of_log}
 use Rattle.nb_core.specs.Plans.{Plan}
 use Rattle.nb_core.specs.declared.events.Event.{Event}
+use Rattle.nb_map.specs.Ending.{EndedOf, EndedWith, log_left}
 use Rattle.nb_map.specs.Entries.{HasOnlyRead}
 use Rattle.nb_map.specs.Bulk.{whole_walk_steps}
 use Rattle.nb_map.specs.Handles.{HandleOf, IsSameMap, handle_on, seats_of}
@@ -22,14 +24,14 @@ use Rattle.nb_lasting.proofs.Sharing.{log-as-events}
 use Rattle.nb_lasting.specs.Epochs.{AllKnow, EpochOf, HasGoneOnBy, HaveMetIn, IsOfEpoch, Knows}
 use Rattle.nb_lasting.specs.Gathered.{AreSingle, IsPartedAnew, IsSingle, seats_of_each}
 use Rattle.nb_lasting.specs.Renewal.{AreAnew, AreAsBefore, AreHeld, AreRenewed}
-use Rattle.nb_lasting.specs.Shared.{EpochIn, IsCurrent, IsLane, KnowsIn, as_events, known_of}
+use Rattle.nb_lasting.specs.Shared.{EpochIn, IsCurrent, IsLane, IsOfGuest, KnowsIn, as_events, known_of}
 
 -- ---- lists by index
 
 some-same : {X : Type 0} (x y : X) → ◌≡◌ {A = Option X} (Some x) (Some y) → x ≡ y
 some-same x y is = ap (λ o. unwrap_or o x) is
 
-at-all : {X : Type 0} (P : X → Type 0) (xs : List X) (i : ℕ) (x : X) → All P xs
+pub at-all : {X : Type 0} (P : X → Type 0) (xs : List X) (i : ℕ) (x : X) → All P xs
     → slice_get xs i ≡ Some x → P x
 at-all P [] i x all at = absurd (omega (arith, slice_get_within [] i x at))
 at-all P (y ∷ ys) zero x all at = subst P (some-same y x at) (All-head P y ys all)
@@ -52,13 +54,13 @@ zip-at P (x ∷ xs) (z ∷ ys) zero y all at = (x, refl, subst (P x) (some-same 
 zip-at P (x ∷ xs) (z ∷ ys) (suc i) y all at = zip-at P xs ys i y all.1 at
 
 -- a handle's seat, and a seat's handle
-seat-at : (handles : List HandleOf) (i : ℕ) (h : HandleOf) → slice_get handles i ≡ Some h
+pub seat-at : (handles : List HandleOf) (i : ℕ) (h : HandleOf) → slice_get handles i ≡ Some h
     → slice_get (seats_of_each handles) i ≡ Some h.seat
 seat-at [] i h at = absurd (omega (arith, slice_get_within [] i h at))
 seat-at (x ∷ xs) zero h at = ap (λ (x : HandleOf). Some x.seat) (some-same x h at)
 seat-at (x ∷ xs) (suc i) h at = seat-at xs i h at
 
-handle-at : (handles : List HandleOf) (i : ℕ) (s : SeatOf)
+pub handle-at : (handles : List HandleOf) (i : ℕ) (s : SeatOf)
     → slice_get (seats_of_each handles) i ≡ Some s
     → (h : HandleOf) × (slice_get handles i ≡ Some h) × (h.seat ≡ s)
 handle-at [] i s at = absurd (omega (arith, slice_get_within [] i s at))
@@ -92,7 +94,7 @@ number-at seats n i s numbered at =
 -- ---- a renewal
 
 -- an epoch in events, as one in logs
-abbrev logs-of : EpochIn → EpochOf
+abbrev pub logs-of : EpochIn → EpochOf
 logs-of e = record {
   filled = log_of e.filled;
   past = log_of e.past;
@@ -100,8 +102,24 @@ logs-of e = record {
   same = e.same;
 }
 
+pub length-each : (handles : List HandleOf) → length (seats_of_each handles) ≡ length handles
+length-each handles = length-map handles (λ (h : HandleOf). h.seat)
+
+-- all calls until a map's end are of so many lanes
+pub whole-made :
+    (e : EpochOf) (n : ℕ) (seats : List SeatOf) (ended : EndedOf) (whole : List Entry)
+    → length seats ≡ n → All (IsOfGuest n) e.past → EndedWith seats ended
+    → HaveMetIn e seats ended whole → All (IsOfGuest n) whole
+whole-made e n seats ended whole many past left met =
+    let all : All (IsOfGuest n) (log_left ended) =
+    subst (λ k. All (IsOfGuest k) (log_left ended)) many left.made in
+    subst (All (IsOfGuest n)) (sym met.is)
+    (All-append (IsOfGuest n) met.later e.past
+    (All-left (IsOfGuest n) met.later e.filled (subst (All (IsOfGuest n)) met.left all)) past)
+
 module _
     (p : Plan) (m : MapOf) (e : EpochIn) (knew : ℕ → List Event) (before after : List HandleOf)
+    (old : All (IsOfGuest p.seats) (log_of e.past))
     (held : AreHeld m e.filled e.past p.seats knew before) (single : AreSingle before) where
   knows-at : (i : ℕ) (h : HandleOf) → slice_get before i ≡ Some h
       → Knows (logs-of e) h.seat (log_of (knew i))
@@ -110,13 +128,21 @@ module _
       record { later = knows.later; here = knows.here; is = knows.is; replayed = knows.replayed }
 
   anew : (joined whole : HandleOf) → seats_of joined ≡ seats_of_each before → HasRenewed p joined whole
-      → AreAnew p.seats knew (map (handle_on whole.map) (seats_of whole))
-  anew joined whole seats renewed = record {
-    shared = whole.map;
-    next = next;
-    held = record { count = count; each = each };
-    met = met;
-  }
+      → (anew : AreAnew p.seats knew (map (handle_on whole.map) (seats_of whole)))
+      × (anew.shared.chain.shape ≡ p)
+  anew joined whole seats renewed = (
+    record {
+      shared = whole.map;
+      next = next;
+      fits = ap (λ (q : Plan). q.seats) shape;
+      made = subst (All (IsOfGuest p.seats)) (sym (log-as-events step.0.past))
+          (whole-made (logs-of e) p.seats (seats_of joined) renewed.ended step.0.past
+          (ap length seats ∙ (length-each before ∙ held.count)) old renewed.left step.1);
+      held = record { count = count; each = each };
+      met = met;
+    },
+    shape,
+  )
     where
       all : All (IsOfEpoch (logs-of e)) (seats_of joined)
       all =
@@ -305,9 +331,10 @@ module _
 
   pub renewed-all :
       (result : Result ⊤ RenewFault) → single.shared ≡ m → IsPartedAnew p before after result
-      → AreRenewed m e.filled e.past p.seats knew after result
+      → AreRenewed p m e.filled e.past knew after result
   renewed-all (Ok done) one is = (
-    subst (AreAnew p.seats knew) (sym is.parted) (anew is.joined is.whole is.seats is.renewed),
+    subst (λ hs. (anew : AreAnew p.seats knew hs) × (anew.shared.chain.shape ≡ p)) (sym is.parted)
+        (anew is.joined is.whole is.seats is.renewed),
     tt,
   )
   renewed-all (Err fault) one is = (

@@ -1,12 +1,12 @@
 -- Each step of the shared lanes keeps their rule.
-use Rattle.std.proofs.Common.{◌≡◌, ◌∙◌, ◌≢◌, ◌+◌, ◌<◌, ◌≤◌, ◌==◌, ◌++◌, ℕ, zero, suc, Bool, true, false, if◌then◌else◌, List, [], ◌∷◌, All, Some, length, slice_index, slice_set, inl, inr, ◌⊎◌, ap, refl, subst, sym, arith}
+use Rattle.std.proofs.Common.{◌≡◌, ◌∙◌, ◌≢◌, ◌+◌, ◌*◌, ◌<◌, ◌≤◌, ◌==◌, ◌++◌, ℕ, zero, suc, Bool, true, false, if◌then◌else◌, List, [], ◌∷◌, All, Some, length, slice_index, slice_set, inl, inr, ◌⊎◌, ap, refl, subst, sym, arith}
 use mathlib.Core.Option as maths
 use mathlib.Core.Option.{none, some, some-injective, some-ne-none}
 use lib.ListN.{get_elem?}
 use prog.Atomic.{either}
 use Rattle.std.specs.Prelude.{◌-◌, None, Option, map, replicate, slice_get, take, unwrap_or}
 use Rattle.std.proofs.lemmas.Bool.Decides.{nat_tests}
-use Rattle.std.proofs.lemmas.List.{append_cancel_right, get_or-replicate, get_or-set_other, get_or-set_same, length-append, length-map, length-replicate, length-set, set-get_or}
+use Rattle.std.proofs.lemmas.List.{append_cancel_right, get_or-set_other, get_or-set_same, length-append, length-map, length-replicate, length-set, set-get_or}
 use Rattle.std.proofs.lemmas.List.Elements.{All-append, All-nil}
 use Rattle.atomic_table.proofs.Lists.{at_set, at_snoc, exchanged, set_again, set_else, set_here}
 use Rattle.atomic_table.specs.Table.{Act, Allows, Me, Splits, Step, Valid, carried_after, chain, gives, keeps, opening, rest, step, stepped, takes}
@@ -21,7 +21,7 @@ use Rattle.nb_lasting.proofs.Epochs.{goes_on}
 use Rattle.nb_lasting.specs.Epochs.{HasGoneOnBy}
 use Rattle.nb_lasting.specs.declared.shared.Out.{Out}
 use Rattle.nb_lasting.specs.declared.shared.LaneView.{LaneView}
-use Rattle.nb_lasting.specs.Shared.{Deals, EpochIn, Gives, Renews, as_events, dealer_left, first_lane_view, new_guest, next_dealer, known_of, rest_outs, Has, HasTaken, Holds, HoldsAnew, IsOfMap, IsCurrent, IsLane, IsOneLog, KnowsIn, LaneMoment, Takes, absent, all_knew, given, given_anew, holders, times_out}
+use Rattle.nb_lasting.specs.Shared.{Deals, EpochIn, Gives, IsOfGuest, Marks, FitsLanes, Renews, as_events, dealer_left, first_lane_view, new_guest, next_dealer, known_of, rest_outs, Has, HasTaken, Holds, HoldsAnew, IsOfMap, IsCurrent, IsLane, IsOneLog, KnowsIn, LaneMoment, Takes, absent, all_knew, given, given_anew, holders, times_out, word_of}
 
 abbrev Homes : Type 0
 Homes = List (maths.Option (Option HandleOf))
@@ -38,6 +38,10 @@ decided i k = split (i == k) refl
     split : (b : Bool) → (i == k) ≡ b → Same i k
     split true is = inl (grind (arith, nat_tests, is), is)
     split false is = inr (grind (arith, nat_tests, is), is)
+
+-- words of two lanes are two
+apart : (i k : ℕ) → i ≢ k → word_of i ≢ word_of k
+apart i k other same = other (omega (arith, same))
 
 holders_set :
     (i : ℕ) (views : List LaneView) (id : ℕ) (v w : LaneView) → get_elem? views id ≡ some v
@@ -176,7 +180,8 @@ current_gone i seen whole gone = record { made = []; reads = All-nil IsRead; gon
 
 module _
     (p : Plan) (s : LaneMoment) (rule : IsOneLog p s) (id : ℕ) (me : Me (Option HandleOf) LaneView)
-    (at : get_elem? s.views id ≡ some me.0) (lane : ℕ) (within : lane < p.seats) where
+    (at : get_elem? s.views id ≡ some me.0) (lane : ℕ) (within : lane < p.seats) (out : ℕ)
+    (is-out : out ≢ 0) where
   out-taken : Out
   out-taken = record { lane = lane; knew = rule.current lane }
 
@@ -193,13 +198,15 @@ module _
 
   take-keeps :
       (handle : HandleOf) → absent (get_elem? s.homes lane) ≡ 0
-      → IsOneLog p (stepped s lane 1 id me.1 taken (takes lane (Some handle)))
+      → IsOneLog p (stepped s (word_of lane) out id me.1 taken (takes lane (Some handle)))
   take-keeps handle home = record {
     shared = rule.shared;
     epoch = rule.epoch;
     current = rule.current;
+    fits = rule.fits;
+    made = rule.made;
     count = length-set s.homes lane none ∙ rule.count;
-    long = length-set s.words lane 1 ∙ rule.long;
+    long = length-set s.words (word_of lane) out ∙ rule.long;
     homes = homes;
     words = λ i below. words i below (decided i lane);
     once = λ i. once i (decided i lane);
@@ -232,16 +239,14 @@ module _
           by (inr (_, old)) = rule.homes i y old
 
       words :
-          (i : ℕ) → i < p.seats → Same i lane
-          → slice_index (slice_set s.words lane 1) i
-          ≡ absent (get_elem? (slice_set s.homes lane none) i)
-      words i below (inl (is, _)) =
-          subst (λ n. slice_index (slice_set s.words lane 1) n
-          ≡ absent (get_elem? (slice_set s.homes lane none) n)) (sym is)
-          (get_or-set_same s.words lane 1 0 (omega (arith, within, rule.long)) ∙ ap absent (sym here))
-      words i below (inr (other, _)) =
-          get_or-set_other s.words lane i 1 0 other
-          ∙ (rule.words i below ∙ ap absent (sym (set_else s.homes lane i none other)))
+          (i : ℕ) → i < p.seats → Same i lane → slice_index (slice_set s.words (word_of lane) out) (word_of i) ≡ 0
+          → absent (get_elem? (slice_set s.homes lane none) i) ≡ 0
+      words i below (inl (is, _)) home =
+          absurd (is-out (sym (get_or-set_same s.words (word_of lane) out 0 (omega (arith, within, rule.long)))
+          ∙ (ap (λ n. slice_index (slice_set s.words (word_of lane) out) (word_of n)) (sym is) ∙ home)))
+      words i below (inr (other, _)) home =
+          ap absent (set_else s.homes lane i none other)
+          ∙ rule.words i below (sym (get_or-set_other s.words (word_of lane) (word_of i) out 0 (apart i lane other)) ∙ home)
 
       once :
           (i : ℕ) → Same i lane
@@ -344,25 +349,25 @@ module _
           let y = was other u found' in
           rule.one_dealer id' other x.0 y.0 d d' x.1 y.1 (x.3 ∙ deals) (y.3 ∙ deals')
 
-  same-state : IsOneLog p (stepped s lane (slice_index s.words lane) id me.1 me.0 keeps)
+  same-state : IsOneLog p (stepped s (word_of lane) (slice_index s.words (word_of lane)) id me.1 me.0 keeps)
   same-state =
       subst (λ ws. IsOneLog p (record {
         words = ws;
         homes = s.homes;
         views = slice_set s.views id me.0;
       }))
-      (sym (set-get_or s.words lane 0))
+      (sym (set-get_or s.words (word_of lane) 0))
       (subst (λ vs. IsOneLog p (record { words = s.words; homes = s.homes; views = vs }))
       (sym (set_again s.views id me.0 at)) rule)
 
   abbrev Goes : ℕ → ℕ → Type 0
   Goes slots k = (w : LaneView) × (a : Act (Option HandleOf)) × Valid s.homes me.1 a
-      × IsOneLog p (stepped s lane k id me.1 w a)
-      × Takes (step slots lane 0 1 none) me (slice_index s.words lane) (w, carried_after me.1 a)
+      × IsOneLog p (stepped s (word_of lane) k id me.1 w a)
+      × Takes (step slots (word_of lane) 0 out none) me (slice_index s.words (word_of lane)) (w, carried_after me.1 a)
 
-  hit : (slots : ℕ) → slice_index s.words lane ≡ 0 → Goes slots 1
-  hit slots is =
-      let home : absent (get_elem? s.homes lane) ≡ 0 = sym (rule.words lane within) ∙ is in
+  hit : (slots : ℕ) → length s.homes ≡ slots → slice_index s.words (word_of lane) ≡ 0 → Goes slots out
+  hit slots homes is =
+      let home : absent (get_elem? s.homes lane) ≡ 0 = rule.words lane within is in
       let y = present s.homes lane (omega (arith, within, rule.count)) home in
       let lies = rule.homes lane y.0 y.1 in (
         taken,
@@ -370,36 +375,116 @@ module _
         y.1 ∙ ap (λ z. some (some z)) lies.1,
         take-keeps lies.0 home,
         (
-          (λ _. record {
-            handle = lies.0;
-            knew = rule.current lane;
-            outs = refl;
-            slots = refl;
-            one = lies.2;
-            knows = lies.3;
-            epoch = rule.epoch;
-            begun = (refl, refl);
-            guest = (refl, refl, refl);
-            mine = λ own. subst (λ l. IsCurrent lane l (rule.current lane))
-                (sym (rule.guests id me.0 lane at own).1) (rule.goes lane within);
-            same = λ some-lane.
-                let there-at = rule.held id me.0 at some-lane in
-                (sym there-at.map, sym there-at.filled, sym there-at.past);
-          }),
+          (λ _ other same-word.
+              let e : lane ≡ other = omega (arith, same-word) in
+              subst (λ l. HasTaken l me (taken, carried_after me.1 (takes lane (Some lies.0)))
+              × FitsLanes slots taken) e (
+                record {
+                  handle = lies.0;
+                  knew = rule.current lane;
+                  outs = refl;
+                  slots = refl;
+                  one = lies.2;
+                  knows = lies.3;
+                  epoch = rule.epoch;
+                  begun = (refl, refl);
+                  guest = (refl, refl, refl);
+                  mine = λ own. subst (λ l. IsCurrent lane l (rule.current lane))
+                      (sym (rule.guests id me.0 lane at own).1) (rule.goes lane within);
+                  same = λ some-lane.
+                      let there-at = rule.held id me.0 at some-lane in
+                      (sym there-at.map, sym there-at.filled, sym there-at.past);
+                },
+                seated (sym rule.count ∙ homes),
+              )),
           (λ not. absurd (not is)),
         ),
       )
+    where
+      seated : p.seats ≡ slots → FitsLanes slots taken
+      seated many = record {
+        fits = rule.fits ∙ many;
+        made = subst (λ n. All (IsOfGuest n) (log_of rule.epoch.past)) many rule.made;
+      }
 
-  miss : (slots : ℕ) → slice_index s.words lane ≢ 0 → Goes slots (slice_index s.words lane)
+  miss : (slots : ℕ) → slice_index s.words (word_of lane) ≢ 0 → Goes slots (slice_index s.words (word_of lane))
   miss slots not = (me.0, keeps, tt, same-state, ((λ is. absurd (not is)), (λ _. refl)))
 
 pub take_allowed :
     (p : Plan) (slots id : ℕ) (me : Me (Option HandleOf) LaneView) (lane : ℕ) → lane < p.seats
-    → Allows (IsOneLog p) slots id me lane (λ n. either (n == 0) 1 n)
-    (Takes (step slots lane 0 1 none) me)
-take_allowed p slots id me lane within s rule homes at fits =
-    exchanged (slice_index s.words lane) 0 1 (Goes p s rule id me at lane within slots)
-    (hit p s rule id me at lane within slots) (miss p s rule id me at lane within slots)
+    → (out : ℕ) → out ≢ 0
+    → Allows (IsOneLog p) slots id me (word_of lane) (λ n. either (n == 0) out n)
+    (Takes (step slots (word_of lane) 0 out none) me)
+take_allowed p slots id me lane within out is-out s rule homes at fits =
+    exchanged (slice_index s.words (word_of lane)) 0 out (Goes p s rule id me at lane within out is-out slots)
+    (hit p s rule id me at lane within out is-out slots homes)
+    (miss p s rule id me at lane within out is-out slots)
+
+-- ---- a lane is marked
+
+module _
+    (p : Plan) (s : LaneMoment) (rule : IsOneLog p s) (id : ℕ) (v : LaneView)
+    (at : get_elem? s.views id ≡ some v) (lane : ℕ) (within : lane < p.seats) where
+  with-word : (out : ℕ) → out ≢ 0
+      → IsOneLog p (record { words = slice_set s.words (word_of lane) out; homes = s.homes; views = s.views })
+  with-word out is-out = record {
+    shared = rule.shared;
+    epoch = rule.epoch;
+    current = rule.current;
+    seen = rule.seen;
+    dealt = rule.dealt;
+    fits = rule.fits;
+    made = rule.made;
+    count = rule.count;
+    long = length-set s.words (word_of lane) out ∙ rule.long;
+    homes = rule.homes;
+    words = λ i below. words i below (decided i lane);
+    once = rule.once;
+    held = rule.held;
+    knew = rule.knew;
+    goes = rule.goes;
+    guests = rule.guests;
+    one_guest = rule.one_guest;
+    fresh = rule.fresh;
+    few = rule.few;
+    dealer = rule.dealer;
+    one_dealer = rule.one_dealer;
+  }
+    where
+      words : (i : ℕ) → i < p.seats → Same i lane → slice_index (slice_set s.words (word_of lane) out) (word_of i) ≡ 0
+          → absent (get_elem? s.homes i) ≡ 0
+      words i below (inl (is, _)) home =
+          absurd (is-out (sym (get_or-set_same s.words (word_of lane) out 0 (omega (arith, within, rule.long)))
+          ∙ (ap (λ n. slice_index (slice_set s.words (word_of lane) out) (word_of n)) (sym is) ∙ home)))
+      words i below (inr (other, _)) home =
+          rule.words i below (sym (get_or-set_other s.words (word_of lane) (word_of i) out 0 (apart i lane other)) ∙ home)
+
+  with-view : (out : ℕ)
+      → IsOneLog p (record { words = slice_set s.words (word_of lane) out; homes = s.homes; views = s.views })
+      → IsOneLog p (record { words = slice_set s.words (word_of lane) out; homes = s.homes; views = slice_set s.views id v })
+  with-view out keeps-rule =
+      subst (λ vs. IsOneLog p (record { words = slice_set s.words (word_of lane) out; homes = s.homes; views = vs }))
+      (sym (set_again s.views id v at)) keeps-rule
+
+pub mark_allowed :
+    (p : Plan) (slots id : ℕ) (me : Me (Option HandleOf) LaneView) (lane old new : ℕ)
+    → lane < p.seats → new ≢ 0
+    → Allows (IsOneLog p) slots id me (word_of lane) (λ n. either (n == old) new n)
+    (Marks (step slots (word_of lane) old new none) me)
+mark_allowed p slots id me lane old new within is-new s rule homes at fits =
+    exchanged (slice_index s.words (word_of lane)) old new Goal
+    (λ is. (me.0, keeps, tt, with-view p s rule id me.0 at lane within new (with-word p s rule id me.0 at lane within new is-new), refl))
+    (λ not. (me.0, keeps, tt, same, refl))
+  where
+    Goal : ℕ → Type 0
+    Goal k = (w : LaneView) × (a : Act (Option HandleOf)) × Valid s.homes me.1 a
+        × IsOneLog p (stepped s (word_of lane) k id me.1 w a)
+        × Marks (step slots (word_of lane) old new none) me (slice_index s.words (word_of lane)) (w, carried_after me.1 a)
+
+    same : IsOneLog p (stepped s (word_of lane) (slice_index s.words (word_of lane)) id me.1 me.0 keeps)
+    same = with-view p s rule id me.0 at lane within (slice_index s.words (word_of lane))
+        (subst (λ ws. IsOneLog p (record { words = ws; homes = s.homes; views = s.views }))
+        (sym (set-get_or s.words (word_of lane) 0)) rule)
 
 -- ---- a lane is given back
 
@@ -411,7 +496,7 @@ module _
     (within : lane < p.seats) (guest : w.guest ≡ v.guest) (deals : w.dealer ≡ v.dealer)
     (one-less : (i : ℕ) → times_out i v.outs ≡ times_out i (record { lane = lane; knew = knew } ∷ w.outs)) where
   after : LaneMoment
-  after = stepped s lane 0 id ((lane, Some handle) ∷ more) w gives
+  after = stepped s (word_of lane) 0 id ((lane, Some handle) ∷ more) w gives
 
   lane-out : Out
   lane-out = record { lane = lane; knew = knew }
@@ -423,16 +508,14 @@ module _
   back-here = set_here s.homes lane (some (Some handle)) (omega (arith, within, rule.count))
 
   back-words :
-      (i : ℕ) → i < p.seats → Same i lane
-      → slice_index (slice_set s.words lane 0) i
-      ≡ absent (get_elem? (slice_set s.homes lane (some (Some handle))) i)
-  back-words i below (inl (is, _)) =
-      subst (λ n. slice_index (slice_set s.words lane 0) n
-      ≡ absent (get_elem? (slice_set s.homes lane (some (Some handle))) n)) (sym is)
-      (get_or-set_same s.words lane 0 0 (omega (arith, within, rule.long)) ∙ ap absent (sym back-here))
-  back-words i below (inr (other, _)) =
-      get_or-set_other s.words lane i 0 0 other
-      ∙ (rule.words i below ∙ ap absent (sym (set_else s.homes lane i (some (Some handle)) other)))
+      (i : ℕ) → i < p.seats → Same i lane → slice_index (slice_set s.words (word_of lane) 0) (word_of i) ≡ 0
+      → absent (get_elem? (slice_set s.homes lane (some (Some handle))) i) ≡ 0
+  back-words i below (inl (is, _)) home =
+      ap (λ n. absent (get_elem? (slice_set s.homes lane (some (Some handle))) n)) is
+      ∙ ap absent back-here
+  back-words i below (inr (other, _)) home =
+      ap absent (set_else s.homes lane i (some (Some handle)) other)
+      ∙ rule.words i below (sym (get_or-set_other s.words (word_of lane) (word_of i) 0 0 (apart i lane other)) ∙ home)
 
   back-once :
       (i : ℕ) → Same i lane
@@ -473,6 +556,7 @@ module _
 
   back-keeps :
       (m : MapOf) (e : EpochIn) (current seen : ℕ → List Event)
+      → m.chain.shape.seats ≡ p.seats → All (IsOfGuest p.seats) (log_of e.past)
       → IsLane m lane handle → KnowsIn e.filled e.past handle.seat (current lane)
       → ((i : ℕ) (y : Option HandleOf) → i ≢ lane → get_elem? s.homes i ≡ some (some y)
       → (h : HandleOf) × (y ≡ Some h) × IsLane m i h
@@ -488,15 +572,17 @@ module _
       → ((other : ℕ) (u : LaneView) (i : ℕ) → other ≢ id → get_elem? s.views other ≡ some u
       → u.guest ≡ Some i → u.seen ≡ seen i)
       → ((i : ℕ) → rule.dealt ≤ i → seen i ≡ [])
-      → IsOneLog p (stepped s lane 0 id ((lane, Some handle) ∷ more) w gives)
-  back-keeps m e current seen one knows elsewhere mine-at away-at mine-knew away-knew goes mine-seen
+      → IsOneLog p (stepped s (word_of lane) 0 id ((lane, Some handle) ∷ more) w gives)
+  back-keeps m e current seen fits made one knows elsewhere mine-at away-at mine-knew away-knew goes mine-seen
       away-seen fresh =
       record {
         shared = m;
         epoch = e;
         current = current;
+        fits = fits;
+        made = made;
         count = length-set s.homes lane (some (Some handle)) ∙ rule.count;
-        long = length-set s.words lane 0 ∙ rule.long;
+        long = length-set s.words (word_of lane) 0 ∙ rule.long;
         homes = homes;
         words = λ i below. back-words i below (decided i lane);
         once = λ i. back-once i (decided i lane);
@@ -645,11 +731,11 @@ module _
       → ((other : ℕ) (u : LaneView) (i : ℕ) → other ≢ id → get_elem? s.views other ≡ some u
       → u.guest ≡ Some i → u.seen ≡ seen i)
       → ((i : ℕ) → rule.dealt ≤ i → seen i ≡ [])
-      → IsOneLog p (stepped s lane 0 id ((lane, Some handle) ∷ more) (given v outs w-seen) gives)
+      → IsOneLog p (stepped s (word_of lane) 0 id ((lane, Some handle) ∷ more) (given v outs w-seen) gives)
   home-keeps w-seen seen goes mine away fresh =
       back-keeps p s rule id v (given v outs w-seen) lane knew handle more at within refl refl
       (λ i. ap (times_out i) view) rule.shared rule.epoch (with_current rule.current lane whole) seen
-      (record { map = one.map ∙ is-at.map; number = one.number; alone = one.alone })
+      rule.fits rule.made (record { map = one.map ∙ is-at.map; number = one.number; alone = one.alone })
       (subst (KnowsIn rule.epoch.filled rule.epoch.past handle.seat)
       (sym (with-here rule.current lane whole)) (record {
         later = knows.later;
@@ -672,7 +758,7 @@ module _
   -- by its guest, which has seen all that the handle knows
   give-keeps :
       v.guest ≡ Some lane
-      → IsOneLog p (stepped s lane 0 id ((lane, Some handle) ∷ more) (given v outs whole) gives)
+      → IsOneLog p (stepped s (word_of lane) 0 id ((lane, Some handle) ∷ more) (given v outs whole) gives)
   give-keeps is-guest = home-keeps whole (with_current rule.seen lane whole) goes mine away fresh
     where
       dealt : lane < rule.dealt
@@ -719,7 +805,7 @@ module _
   -- by who has taken it for a renewal that was refused
   deal-keeps :
       IsCurrent lane knew whole
-      → IsOneLog p (stepped s lane 0 id ((lane, Some handle) ∷ more) (given v outs v.seen) gives)
+      → IsOneLog p (stepped s (word_of lane) 0 id ((lane, Some handle) ∷ more) (given v outs v.seen) gives)
   deal-keeps gone =
       home-keeps v.seen rule.seen goes (λ i is. (rule.guests id v i at is).1)
       (λ other u i differ at' is. (rule.guests other u i at' is).1) rule.fresh
@@ -752,6 +838,8 @@ module _
     (at : get_elem? s.views id ≡ some v) (within : lane < p.seats)
     (view : v.outs ≡ record { lane = lane; knew = knew } ∷ outs)
     (number : handle.seat.chain.number ≡ lane) (alone : handle.reserve ≡ [])
+    (fits : handle.map.chain.shape.seats ≡ p.seats)
+    (made : All (IsOfGuest p.seats) (log_of next.past))
     (knows : KnowsIn next.filled next.past handle.seat next.past)
     (all : (i : ℕ) → i < p.seats → 1 ≤ times_out i v.outs)
     (met : (out : Out) → Has out v.outs → HasGoneOnBy out.lane (log_of out.knew) (log_of next.past) []) where
@@ -792,14 +880,14 @@ module _
 
   anew-keeps :
       IsOneLog p
-      (stepped s lane 0 id ((lane, Some handle) ∷ more)
+      (stepped s (word_of lane) 0 id ((lane, Some handle) ∷ more)
       (given_anew v outs handle.map next.filled next.past) gives)
   anew-keeps =
       back-keeps p s rule id v (given_anew v outs handle.map next.filled next.past) lane knew handle
       more at within refl refl
       (λ i. ap (times_out i) view ∙ ap (λ n. if i == lane then 1 + n else n)
       (sym (times_all_knew i next.past outs)))
-      handle.map next (λ _. next.past) rule.seen
+      handle.map next (λ _. next.past) rule.seen fits made
       (record { map = refl; number = number; alone = alone })
       knows
       (λ i y other old. absurd (none-home i y old))
@@ -856,10 +944,10 @@ pub give_allowed :
     (p : Plan) (slots id : ℕ) (me : Me (Option HandleOf) LaneView) (lane : ℕ) (knew whole : List Event)
     (handle : HandleOf) → lane < p.seats → Holds lane knew whole handle me
     → me.0.guest ≡ Some lane
-    → Allows (IsOneLog p) slots id me lane (λ _. 0) (λ _. Gives (step slots lane 0 0 none) me 0)
+    → Allows (IsOneLog p) slots id me (word_of lane) (λ _. 0) (λ _. Gives (step slots (word_of lane) 0 0 none) me 0)
 give_allowed p slots id me lane knew whole handle within holds is-guest =
-    subst (λ (c : List (ℕ × Option HandleOf)). Allows (IsOneLog p) slots id (me.0, c) lane (λ _. 0)
-    (λ _. Gives (step slots lane 0 0 none) (me.0, c) 0)) (sym holds.slot)
+    subst (λ (c : List (ℕ × Option HandleOf)). Allows (IsOneLog p) slots id (me.0, c) (word_of lane) (λ _. 0)
+    (λ _. Gives (step slots (word_of lane) 0 0 none) (me.0, c) 0)) (sym holds.slot)
     (λ s rule homes at fits. (
       given me.0 holds.outs (known_of me.0.filled me.0.past handle.seat),
       gives,
@@ -878,10 +966,10 @@ pub deal_allowed :
     (p : Plan) (slots id : ℕ) (me : Me (Option HandleOf) LaneView) (lane : ℕ) (knew whole : List Event)
     (handle : HandleOf) → lane < p.seats → Holds lane knew whole handle me
     → IsCurrent lane knew whole
-    → Allows (IsOneLog p) slots id me lane (λ _. 0) (λ _. Deals (step slots lane 0 0 none) me 0)
+    → Allows (IsOneLog p) slots id me (word_of lane) (λ _. 0) (λ _. Deals (step slots (word_of lane) 0 0 none) me 0)
 deal_allowed p slots id me lane knew whole handle within holds gone =
-    subst (λ (c : List (ℕ × Option HandleOf)). Allows (IsOneLog p) slots id (me.0, c) lane (λ _. 0)
-    (λ _. Deals (step slots lane 0 0 none) (me.0, c) 0)) (sym holds.slot)
+    subst (λ (c : List (ℕ × Option HandleOf)). Allows (IsOneLog p) slots id (me.0, c) (word_of lane) (λ _. 0)
+    (λ _. Deals (step slots (word_of lane) 0 0 none) (me.0, c) 0)) (sym holds.slot)
     (λ s rule homes at fits. (
       given me.0 holds.outs me.0.seen,
       gives,
@@ -903,16 +991,16 @@ anew-log next seat knows =
 pub anew_allowed :
     (p : Plan) (slots id : ℕ) (me : Me (Option HandleOf) LaneView) (lane : ℕ) (knew : List Event)
     (handle : HandleOf) (next : EpochIn) → lane < p.seats → HoldsAnew p lane knew handle next me
-    → Allows (IsOneLog p) slots id me lane (λ _. 0) (λ _. Renews (step slots lane 0 0 none) me 0)
+    → Allows (IsOneLog p) slots id me (word_of lane) (λ _. 0) (λ _. Renews (step slots (word_of lane) 0 0 none) me 0)
 anew_allowed p slots id me lane knew handle next within holds =
-    subst (λ (c : List (ℕ × Option HandleOf)). Allows (IsOneLog p) slots id (me.0, c) lane (λ _. 0)
-    (λ _. Renews (step slots lane 0 0 none) (me.0, c) 0)) (sym holds.slot)
+    subst (λ (c : List (ℕ × Option HandleOf)). Allows (IsOneLog p) slots id (me.0, c) (word_of lane) (λ _. 0)
+    (λ _. Renews (step slots (word_of lane) 0 0 none) (me.0, c) 0)) (sym holds.slot)
     (λ s rule homes at fits. (
       given_anew me.0 holds.outs handle.map next.filled next.past,
       gives,
       tt,
       anew-keeps p s rule id me.0 lane knew holds.outs handle next (rest me.1) at within holds.view
-          holds.number holds.alone holds.knows holds.all holds.met,
+          holds.number holds.alone holds.fits holds.made holds.knows holds.all holds.met,
       (
         next,
         anew-log next handle.seat holds.knows,
@@ -945,11 +1033,11 @@ one_view v (suc id) u at = absurd (some-ne-none u (sym at))
 
 pub opens :
     (p : Plan) (m : MapOf) (handles : List HandleOf) (slots : List (Option HandleOf))
-    (words : List ℕ) → length handles ≡ p.seats
+    (words : List ℕ) → m.chain.shape.seats ≡ p.seats → length handles ≡ p.seats
     → ((i : ℕ) (h : HandleOf) → slice_get handles i ≡ Some h → IsLane m i h × (log h.seat ≡ []))
-    → slots ≡ map Some handles → words ≡ replicate p.seats 0
+    → slots ≡ map Some handles → words ≡ replicate (8 * p.seats) 0
     → IsOneLog p (opening words slots (first_lane_view p))
-opens p m handles slots words count each is zeros =
+opens p m handles slots words fits count each is zeros =
     subst (λ xs. IsOneLog p (opening words xs (first_lane_view p))) (sym is)
     (subst (λ ws. IsOneLog p (opening ws (map Some handles) (first_lane_view p))) (sym zeros) (record {
       shared = m;
@@ -957,13 +1045,15 @@ opens p m handles slots words count each is zeros =
       current = λ _. [];
       seen = λ _. [];
       dealt = 0;
+      fits = fits;
+      made = All-nil (IsOfGuest p.seats);
       count = omega (arith, length-map (map Some handles) some, length-map handles Some, count);
-      long = length-replicate p.seats 0;
+      long = length-replicate (8 * p.seats) 0;
       homes = λ i y at.
           let h = house_at handles i y at in
           let lane = each i h.0 h.2 in
           (h.0, h.1, lane.0, record { later = []; here = lane.1; is = refl; replayed = tt });
-      words = λ i below. get_or-replicate p.seats i 0 0 below ∙ sym (none_out handles i);
+      words = λ i below home. none_out handles i;
       once = λ i. sym (none_out handles i);
       held = λ id v at some-lane. absurd (some-lane (sym (ap (λ (u : LaneView). u.outs)
           (one_view (first_lane_view p) id v at).1)));
@@ -993,7 +1083,7 @@ holders_more :
 holders_more i [] v none-held = let e = ap (times_out i) none-held in omega (arith, e)
 holders_more i (x ∷ xs) v none-held = omega (arith, holders_more i xs v none-held)
 
-holders_same :
+pub holders_same :
     (i : ℕ) (views : List LaneView) (id : ℕ) (v w : LaneView) → get_elem? views id ≡ some v
     → w.outs ≡ v.outs → holders i (slice_set views id w) ≡ holders i views
 holders_same i views id v w at same =
@@ -1066,6 +1156,8 @@ module _
     current = rule.current;
     seen = rule.seen;
     dealt = suc d;
+    fits = rule.fits;
+    made = rule.made;
     count = rule.count;
     long = rule.long;
     homes = rule.homes;

@@ -1,14 +1,16 @@
 -- What a token has to hold that gives a lane's handle back.
-use Rattle.std.specs.Prelude.{◌≡◌, ◌++◌, ◌∷◌, ℕ, All, Err, Ok, Option, Result, Some, List, []}
+use Rattle.std.specs.Prelude.{◌≡◌, ◌++◌, ◌∷◌, ℕ, All, Err, Ok, Option, Result, Some, List, [], true}
 use Rattle.atomic_table.specs.Table.{Me}
 use Rattle.nb_core.specs.Plans.{Plan}
-use Rattle.nb_core.specs.Log.{log_of}
+use Rattle.nb_core.specs.Calls.{Fills, overflows}
+use Rattle.nb_core.specs.Log.{Entry, log_of, map_of_log}
 use Rattle.nb_core.specs.declared.calls.Call.{Call}
 use Rattle.nb_core.specs.declared.calls.Reply.{Reply}
 use Rattle.nb_core.specs.declared.events.Event.{Event}
 use Rattle.nb_map.specs.Entries.{IsRead}
 use Rattle.nb_map.specs.Handles.{HandleOf}
-use Rattle.nb_map.specs.declared.faults.Full.{Full}
+use Rattle.nb_map.specs.declared.faults.PutFault.TheVariants as put_fault
+use Rattle.nb_map.specs.declared.faults.PutFault.{PutFault}
 use Rattle.nb_lasting.specs.Epochs.{HasGoneOnBy}
 use Rattle.nb_lasting.specs.Shared.{EpochIn, Holds, HoldsAnew, IsCurrent}
 use Rattle.nb_lasting.specs.declared.shared.LaneView.{LaneView}
@@ -52,9 +54,15 @@ pub record HasCalledIn (lane : ℕ) (before after : LaneView) (made : List (Call
   pub are_reads : All IsRead reads
   pub gone : HasGoneOnBy lane (log_of before.seen) (log_of after.seen) (made ++ reads)
 
--- what a put through a lane promises, which may be refused as full: then the guest has called nothing
-abbrev pub HasPutIn :
-    (lane : ℕ) → (before after : LaneView) → Call → Result (Option ℕ) Full → Type 0
-HasPutIn lane before after call (Ok found) =
-    (reply : Reply) × (reply.before ≡ found) × HasCalledIn lane before after ((call, reply) ∷ [])
-HasPutIn lane before after call (Err full) = HasCalledIn lane before after []
+-- why a write through a lane is refused, by the log that the guest knows then
+abbrev pub IsJustIn : Call → List Entry → PutFault → Type 0
+IsJustIn call log put_fault.Full = Fills call
+IsJustIn call log put_fault.Contended = Unit {0}
+IsJustIn call log put_fault.ValueRange = overflows call (map_of_log log) ≡ true
+
+-- what a write through a lane promises, which may be refused: then the guest has called nothing
+abbrev pub HasWrittenIn :
+    (lane : ℕ) → (before after : LaneView) → Call → Result Reply PutFault → Type 0
+HasWrittenIn lane before after call (Ok reply) = HasCalledIn lane before after ((call, reply) ∷ [])
+HasWrittenIn lane before after call (Err fault) =
+    HasCalledIn lane before after [] × IsJustIn call (log_of after.seen) fault

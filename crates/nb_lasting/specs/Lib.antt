@@ -2,6 +2,8 @@ pub mod Lasting
 pub mod Laws
 pub mod Epochs
 pub mod Shared
+pub mod Guests
+pub mod Closing
 pub mod Holding
 pub mod Gathered
 pub mod Renewal

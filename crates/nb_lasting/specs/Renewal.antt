@@ -1,13 +1,14 @@
 -- What a renewer holds: the handles of the lanes below a number, and of all lanes at last.
-use Rattle.std.specs.Prelude.{◌≡◌, ◌<◌, ℕ, zero, suc, List, [], ◌∷◌, Option, Some, None, IfErr, IfOk, Result, ⊤, length, slice_get}
+use Rattle.std.specs.Prelude.{◌≡◌, ◌<◌, ℕ, zero, suc, All, List, [], ◌∷◌, Option, Some, None, IfErr, IfOk, Result, ⊤, length, slice_get}
 use Rattle.atomic_table.specs.Table.{Me}
 use Rattle.nb_core.specs.Log.{log_of}
+use Rattle.nb_core.specs.Plans.{Plan}
 use Rattle.nb_core.specs.declared.events.Event.{Event}
 use Rattle.nb_map.specs.Handles.{HandleOf}
 use Rattle.nb_map.specs.Maps.{MapOf}
 use Rattle.nb_map.specs.declared.faults.RenewFault.{RenewFault}
 use Rattle.nb_lasting.specs.Epochs.{HasGoneOnBy}
-use Rattle.nb_lasting.specs.Shared.{EpochIn, IsCurrent, IsLane, KnowsIn}
+use Rattle.nb_lasting.specs.Shared.{EpochIn, IsCurrent, IsLane, IsOfGuest, KnowsIn}
 use Rattle.nb_lasting.specs.declared.shared.Out.{Out}
 use Rattle.nb_lasting.specs.declared.shared.LaneView.{LaneView}
 
@@ -29,10 +30,12 @@ blanks zero = []
 blanks (suc n) = (n, None) ∷ blanks n
 
 -- The handles of all lanes are of another map, whose epoch goes on from what each lane's handle
--- knew, by no call of it; and that is what they know.
+-- knew, by no call of it; and that is what they know. It has a seat for each lane.
 pub record AreAnew (n : ℕ) (knew : ℕ → List Event) (handles : List HandleOf) : Type 0 where
   pub shared : MapOf
   pub next : EpochIn
+  pub fits : shared.chain.shape.seats ≡ n
+  pub made : All (IsOfGuest n) (log_of next.past)
   pub held : AreHeld shared next.filled next.past n (λ _. next.past) handles
   pub met : (i : ℕ) → i < n → HasGoneOnBy i (log_of (knew i)) (log_of next.past) []
 
@@ -45,11 +48,11 @@ pub record AreAsBefore (m : MapOf) (filled past : List Event) (n : ℕ) (knew : 
 
 -- what a renewal makes of all handles
 abbrev pub AreRenewed :
-    MapOf → (filled past : List Event) → ℕ → (ℕ → List Event) → (after : List HandleOf)
+    Plan → MapOf → (filled past : List Event) → (ℕ → List Event) → (after : List HandleOf)
     → Result ⊤ RenewFault → Type 0
-AreRenewed m filled past n knew after result =
-    IfOk result (λ done. AreAnew n knew after)
-    × IfErr result (λ fault. AreAsBefore m filled past n knew after)
+AreRenewed p m filled past knew after result =
+    IfOk result (λ done. (anew : AreAnew p.seats knew after) × (anew.shared.chain.shape ≡ p))
+    × IfErr result (λ fault. AreAsBefore m filled past p.seats knew after)
 
 -- ---- what the renewer's token holds
 
@@ -80,6 +83,11 @@ pub record CanDealAnew (n : ℕ) (me : Me (Option HandleOf) LaneView) (handles :
   pub outs : me.0.outs ≡ down knew n
   pub slots : me.1 ≡ blanks n
   pub anew : AreAnew n knew handles
+
+-- and that map is of this shape
+abbrev pub CanDealShaped :
+    Plan → ℕ → Me (Option HandleOf) LaneView → (handles : List HandleOf) → Type 0
+CanDealShaped p n me handles = (can : CanDealAnew n me handles) × (can.anew.shared.chain.shape ≡ p)
 
 -- a token that has no lane's handle
 pub record IsIdleToken (me : Me (Option HandleOf) LaneView) : Type 0 where

@@ -1,7 +1,7 @@
 -- Lanes that threads share: each guest has one, whose handle is at home in a slot of a table while
 -- the guest makes no call. Who makes the map anew takes all handles. This is the rule of that table,
 -- with the one log of all calls in it.
-use Rattle.std.specs.Prelude.{refl, zero, suc, slice_get, ◌≡◌, ◌≢◌, ◌==◌, ◌<◌, ◌+◌, ◌≤◌, ◌-◌, ◌++◌, ◌⊎◌, take, ℕ, if◌then◌else◌, List, [], ◌∷◌, Option, Some, None, All, length, map, slice_index}
+use Rattle.std.specs.Prelude.{refl, zero, suc, slice_get, ◌≡◌, ◌≢◌, ◌==◌, ◌<◌, ◌+◌, ◌*◌, ◌≤◌, ◌-◌, ◌++◌, ◌⊎◌, take, ℕ, if◌then◌else◌, List, [], ◌∷◌, Option, Some, None, All, length, map, slice_index}
 use mathlib.Core.Option as maths
 use mathlib.Core.Option.{none, some}
 use lib.ListN.{get_elem?}
@@ -60,6 +60,15 @@ pub record IsCurrent (lane : ℕ) (seen whole : List Event) : Type 0 where
   pub reads : All IsRead made
   pub gone : HasGoneOnBy lane (log_of seen) (log_of whole) made
 
+-- the call is one of the guests', of whom there are so many
+abbrev pub IsOfGuest : ℕ → Entry → Type 0
+IsOfGuest n entry = entry.seat < n
+
+-- The map has a seat for each of so many lanes, and what it went on from has their calls alone.
+pub record FitsLanes (n : ℕ) (v : LaneView) : Type 0 where
+  pub fits : v.map.chain.shape.seats ≡ n
+  pub made : All (IsOfGuest n) (log_of v.past)
+
 -- the handle is the lane's, of this map
 pub record IsLane (m : MapOf) (lane : ℕ) (handle : HandleOf) : Type 0 where
   pub map : handle.map ≡ m
@@ -67,6 +76,10 @@ pub record IsLane (m : MapOf) (lane : ℕ) (handle : HandleOf) : Type 0 where
   pub alone : handle.reserve ≡ []
 
 -- ---- who has which handle
+
+-- The word of a lane: each eighth, so that no two lie in one line of a cache.
+abbrev pub word_of : ℕ → ℕ
+word_of lane = 8 * lane
 
 abbrev pub LaneMoment : Type 0
 LaneMoment = State (Option HandleOf) LaneView
@@ -91,7 +104,7 @@ Has out (o ∷ outs) = (o ≡ out) ⊎ Has out outs
 
 -- ---- the rule
 
--- There is one map, with its epoch, and in each lane a log is current: the one log that the handle
+-- There is one map, with its epoch, in which are the lanes' calls alone, and in each lane a log is current: the one log that the handle
 -- knows which is at home there, or that it knew when it was taken. It goes on from what the lane's
 -- guest has seen, by no call of the guest. Lanes have guests up to a number, which one token knows
 -- that makes more of them; where there is no guest yet, nothing has been seen.
@@ -101,13 +114,15 @@ pub record IsOneLog (p : Plan) (s : LaneMoment) : Type 0 where
   pub current : ℕ → List Event
   pub seen : ℕ → List Event
   pub dealt : ℕ
+  pub fits : shared.chain.shape.seats ≡ p.seats
+  pub made : All (IsOfGuest p.seats) (log_of epoch.past)
   pub count : length s.homes ≡ p.seats
-  pub long : length s.words ≡ p.seats
+  pub long : length s.words ≡ 8 * p.seats
   pub homes :
       (i : ℕ) (y : Option HandleOf) → get_elem? s.homes i ≡ some (some y)
       → (handle : HandleOf) × (y ≡ Some handle) × IsLane shared i handle
       × KnowsIn epoch.filled epoch.past handle.seat (current i)
-  pub words : (i : ℕ) → i < p.seats → slice_index s.words i ≡ absent (get_elem? s.homes i)
+  pub words : (i : ℕ) → i < p.seats → slice_index s.words (word_of i) ≡ 0 → absent (get_elem? s.homes i) ≡ 0
   pub once : (i : ℕ) → holders i s.views ≡ absent (get_elem? s.homes i)
   pub held :
       (id : ℕ) (v : LaneView) → get_elem? s.views id ≡ some v → v.outs ≢ [] → IsOfMap shared epoch v
@@ -158,7 +173,14 @@ pub record HasTaken (lane : ℕ) (before after : Me (Option HandleOf) LaneView) 
 abbrev pub Takes :
     Step (Option HandleOf) → Me (Option HandleOf) LaneView → ℕ → Me (Option HandleOf) LaneView → Type 0
 Takes step before found after =
-    (found ≡ 0 → HasTaken step.word before after) × (found ≢ 0 → after ≡ before)
+    (found ≡ 0 → (lane : ℕ) → step.word ≡ word_of lane
+    → HasTaken lane before after × FitsLanes step.slots after.0)
+    × (found ≢ 0 → after ≡ before)
+
+-- a look at a lane's word, which may mark it: the token is as before
+abbrev pub Marks :
+    Step (Option HandleOf) → Me (Option HandleOf) LaneView → ℕ → Me (Option HandleOf) LaneView → Type 0
+Marks step before found after = after ≡ before
 
 -- the token has this lane's handle, taken last, which has gone on to this log
 pub record Holds (lane : ℕ) (knew whole : List Event) (handle : HandleOf)
@@ -192,6 +214,8 @@ pub record HoldsAnew (p : Plan) (lane : ℕ) (knew : List Event) (handle : Handl
   pub slot : me.1 ≡ (lane, Some handle) ∷ rest me.1
   pub number : handle.seat.chain.number ≡ lane
   pub alone : handle.reserve ≡ []
+  pub fits : handle.map.chain.shape.seats ≡ p.seats
+  pub made : All (IsOfGuest p.seats) (log_of next.past)
   pub knows : KnowsIn next.filled next.past handle.seat next.past
   pub all : (i : ℕ) → i < p.seats → 1 ≤ times_out i me.0.outs
   pub met : (out : Out) → Has out me.0.outs → HasGoneOnBy out.lane (log_of out.knew) (log_of next.past) []
@@ -304,6 +328,24 @@ new_guest v = record {
   dealer = None;
   seen = [];
   map = v.map;
+  filled = [];
+  past = [];
+  outs = [];
+}
+
+-- ---- a token takes the place of another
+
+-- it is the guest that the other was
+abbrev pub as_guest : (v w : LaneView) → LaneView
+as_guest v w = record v { guest = w.guest; seen = w.seen }
+
+-- and the other is nobody
+abbrev pub nobody : LaneView
+nobody = record {
+  guest = None;
+  dealer = None;
+  seen = [];
+  map = no_map (record { exponents = []; seats = 0; stripes = 0; reprobes = 0; chunk = 0 });
   filled = [];
   past = [];
   outs = [];

@@ -10,7 +10,7 @@ use std::alloc::Global;
 use std::sync::Wait;
 
 /// All seats in one handle, in the order of their handles.
-fn joined(handles: Vec<Handle>) -> Handle
+pub(crate) fn joined(handles: Vec<Handle>) -> Handle
     requires single { AreSingle handles.items }
     ensures map { (single : AreSingle handles.items) → result.map ≡ single.shared }
     ensures seats { seats_of result ≡ seats_of_each handles.items }

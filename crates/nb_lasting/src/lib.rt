@@ -1,10 +1,15 @@
-//! A map without an end, for one owner: it makes itself anew, larger or of the same size, before its
-//! tables are full. So a put is refused only where there is no memory, or where the greatest table is
-//! full; and its calls answer as those of a plain map, as if there were no tables.
+//! A map without an end, for one owner, or for guests that share it: it makes itself anew, larger or of
+//! the same size, where its tables are full. So a put is refused only where there is no memory, or where
+//! the greatest table is full; and its calls answer as those of a plain map, as if there were no tables.
 #![tactic(auto)]
 
+mod closing;
 mod faults;
 mod gathered;
+mod guest;
+#[cfg(test)]
+mod guest_tests;
+mod hall;
 mod lasting;
 pub mod laws;
 mod opening;
@@ -12,8 +17,12 @@ mod present;
 mod renewing;
 mod shapes;
 mod shared;
+mod shared_lasting;
 #[cfg(test)]
 mod tests;
+mod through;
 
 pub use faults::{GrowFault, WriteFault};
+pub use guest::Guest;
 pub use lasting::Lasting;
+pub use shared_lasting::SharedLasting;

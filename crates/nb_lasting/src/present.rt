@@ -30,7 +30,7 @@ impl Present {
         ensures alone { IfOk result (λ present. IsAlone present.handle) }
         ensures empty { IfOk result (λ present. content present.handle ≡ numbers.empty) }
     {
-        let handle = Handle::open(alloc, shape_for(keys))?;
+        let handle = Handle::open(alloc, shape_for(keys, 1))?;
         handle.known();
         Ok(Present {
             handle,
@@ -111,7 +111,7 @@ impl Present {
         ensures fresh { OnOk result (IsFresh self.new.handle) }
         ensures full { result ≡ Err fault.Full → IsGreatest (content self.old.handle) }
     {
-        match self.handle.renew(self.alloc, shape_for(keys)) {
+        match self.handle.renew(self.alloc, shape_for(keys, 1)) {
             Ok(()) => {
                 self.handle.known();
                 Ok(())

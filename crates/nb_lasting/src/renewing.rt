@@ -1,24 +1,29 @@
 //! The map is made anew while threads call: who does it takes all lanes' handles as they come home.
-ghost use Rattle.std.specs.Prelude.{IfOk, OnErr, ◌+◌, ◌<◌, ◌≤◌, ◌≡◌, false, length, true, vec_capacity};
+ghost use Rattle.std.specs.Prelude.{IfOk, Ok, OnErr, OnOk, ◌+◌, ◌*◌, ◌<◌, ◌≤◌, ◌≡◌, false, length, true, vec_capacity};
 ghost use Rattle.nb_lasting.specs.Renewal.{CanDealAnew, CanDealBelow, HoldsBelow, IsIdleToken, IsSameGuest};
+ghost use Rattle.nb_lasting.specs.Shared.{FitsLanes};
 
 use crate::gathered::parted_anew;
+use crate::hall::Hall;
 use crate::shared::{Row, Token, give_anew, give_back, hold};
 use nb_core::{OutOfMemory, Shape};
 use nb_map::{Handle, RenewFault};
 use std::alloc::Global;
 use std::sync::Wait;
+use std::sync::atomic::Ordering;
 
 /// Takes a lane's handle out of its slot, to those of the lanes below.
 fn gather<R: Wait>(rt: &R, row: &Row, token: &mut Token, handles: &mut Vec<Handle>, lane: usize)
     requires table { token.old.table_id ≡ row.now.table_id }
     requires lane { lane < row.now.key.seats }
-    requires words { row.now.table_id.words ≡ row.now.key.seats }
+    requires words { row.now.table_id.words ≡ 8 * row.now.key.seats }
+    requires few { row.now.key.seats ≤ 256 }
     requires room { length handles.old.items < vec_capacity handles.old }
     requires holds { HoldsBelow lane token.old.me handles.old.items }
     ensures table { token.new.table_id ≡ token.old.table_id }
     ensures guest { IsSameGuest token.old.me.0 token.new.me.0 }
     ensures room { vec_capacity handles.new ≡ vec_capacity handles.old }
+    ensures seated { FitsLanes row.now.table_id.slots token.new.me.0 }
     ensures holds { HoldsBelow (lane + 1) token.new.me handles.new.items }
 {
     hold(rt, row, token, lane);
@@ -32,10 +37,12 @@ fn gather<R: Wait>(rt: &R, row: &Row, token: &mut Token, handles: &mut Vec<Handl
 fn deal(row: &Row, token: &mut Token, handles: &mut Vec<Handle>, lane: usize)
     requires table { token.old.table_id ≡ row.now.table_id }
     requires lane { lane < row.now.key.seats }
-    requires words { row.now.table_id.words ≡ row.now.key.seats }
+    requires words { row.now.table_id.words ≡ 8 * row.now.key.seats }
+    requires few { row.now.key.seats ≤ 256 }
     requires holds { CanDealBelow (lane + 1) token.old.me handles.old.items }
     ensures table { token.new.table_id ≡ token.old.table_id }
     ensures guest { IsSameGuest token.old.me.0 token.new.me.0 }
+    ensures map { token.new.me.0.map ≡ token.old.me.0.map }
     ensures holds { CanDealBelow lane token.new.me handles.new.items }
 {
     let Some(handle) = handles.pop() else {
@@ -49,10 +56,13 @@ fn deal(row: &Row, token: &mut Token, handles: &mut Vec<Handle>, lane: usize)
 fn deal_anew(row: &Row, token: &mut Token, handles: &mut Vec<Handle>, lane: usize)
     requires table { token.old.table_id ≡ row.now.table_id }
     requires lane { lane + 1 ≡ row.now.key.seats }
-    requires words { row.now.table_id.words ≡ row.now.key.seats }
+    requires words { row.now.table_id.words ≡ 8 * row.now.key.seats }
+    requires few { row.now.key.seats ≤ 256 }
     requires holds { CanDealAnew (lane + 1) token.old.me handles.old.items }
     ensures table { token.new.table_id ≡ token.old.table_id }
     ensures guest { IsSameGuest token.old.me.0 token.new.me.0 }
+    ensures map { (can : CanDealAnew (lane + 1) token.old.me handles.old.items)
+        → token.new.me.0.map ≡ can.anew.shared }
     ensures holds { CanDealBelow lane token.new.me handles.new.items }
 {
     let Some(handle) = handles.pop() else {
@@ -72,10 +82,13 @@ fn gather_all<R: Wait>(
 ) -> Result<Vec<Handle>, OutOfMemory>
     requires table { token.old.table_id ≡ row.now.table_id }
     requires seats { seats ≡ row.now.key.seats }
-    requires words { row.now.table_id.words ≡ row.now.key.seats }
+    requires words { row.now.table_id.words ≡ 8 * row.now.key.seats }
+    requires few { row.now.key.seats ≤ 256 }
     requires idle { IsIdleToken token.old.me }
     ensures table { token.new.table_id ≡ token.old.table_id }
     ensures guest { IsSameGuest token.old.me.0 token.new.me.0 }
+    ensures seated { IfOk result (λ handles. 1 ≤ seats
+        → FitsLanes row.now.table_id.slots token.new.me.0) }
     ensures holds { IfOk result (λ handles. HoldsBelow seats token.new.me handles.items) }
     ensures kept { OnErr result (token.new.me ≡ token.old.me) }
 {
@@ -90,10 +103,12 @@ fn gather_all<R: Wait>(
 fn deal_all(row: &Row, token: &mut Token, handles: Vec<Handle>)
     requires table { token.old.table_id ≡ row.now.table_id }
     requires lanes { length handles.items ≤ row.now.key.seats }
-    requires words { row.now.table_id.words ≡ row.now.key.seats }
+    requires words { row.now.table_id.words ≡ 8 * row.now.key.seats }
+    requires few { row.now.key.seats ≤ 256 }
     requires holds { CanDealBelow (length handles.items) token.old.me handles.items }
     ensures table { token.new.table_id ≡ token.old.table_id }
     ensures guest { IsSameGuest token.old.me.0 token.new.me.0 }
+    ensures map { token.new.me.0.map ≡ token.old.me.0.map }
     ensures idle { IsIdleToken token.new.me }
 {
     let mut handles = handles;
@@ -108,13 +123,17 @@ fn deal_renewed(row: &Row, token: &mut Token, handles: Vec<Handle>, renewed: boo
     requires table { token.old.table_id ≡ row.now.table_id }
     requires lanes { length handles.items ≡ row.now.key.seats }
     requires some { 1 ≤ row.now.key.seats }
-    requires words { row.now.table_id.words ≡ row.now.key.seats }
+    requires words { row.now.table_id.words ≡ 8 * row.now.key.seats }
+    requires few { row.now.key.seats ≤ 256 }
     requires anew { renewed ≡ true
         → CanDealAnew (length handles.items) token.old.me handles.items }
     requires as_before { renewed ≡ false
         → CanDealBelow (length handles.items) token.old.me handles.items }
     ensures table { token.new.table_id ≡ token.old.table_id }
     ensures guest { IsSameGuest token.old.me.0 token.new.me.0 }
+    ensures map { renewed ≡ true
+        → (can : CanDealAnew (length handles.items) token.old.me handles.items)
+        → token.new.me.0.map ≡ can.anew.shared }
     ensures idle { IsIdleToken token.new.me }
 {
     let mut handles = handles;
@@ -127,26 +146,53 @@ fn deal_renewed(row: &Row, token: &mut Token, handles: Vec<Handle>, renewed: boo
     }
 }
 
-/// Makes the map anew while other threads call: waits for each lane, and gives all back. The token's
-/// guest has called nothing by it.
-pub(crate) fn renew_through<R: Wait>(
+/// Makes the map anew with all handles, and puts them back.
+fn renew_all<R: Wait>(
     rt: &R,
-    row: &Row,
+    hall: &Hall,
     token: &mut Token,
-    alloc: Global,
+    handles: Vec<Handle>,
     shape: Shape,
 ) -> Result<(), RenewFault>
-    requires table { token.old.table_id ≡ row.now.table_id }
-    requires words { row.now.table_id.words ≡ row.now.key.seats }
-    requires shape { shape.seats ≡ row.now.key.seats }
+    requires table { token.old.table_id ≡ hall.now.table.shared.table_id }
+    requires shape { shape.seats ≡ hall.now.table.shared.key.seats }
+    requires seated { FitsLanes shape.seats token.old.me.0 }
+    requires holds { HoldsBelow shape.seats token.old.me handles.items }
+    ensures table { token.new.table_id ≡ token.old.table_id }
+    ensures guest { IsSameGuest token.old.me.0 token.new.me.0 }
+    ensures idle { IsIdleToken token.new.me }
+    ensures anew { OnOk result (token.new.me.0.map.chain.shape ≡ shape) }
+{
+    let (handles, renewed) = parted_anew(rt, hall.alloc, handles, shape);
+    hall.renewals.fetch_add(1, Ordering::SeqCst);
+    deal_renewed(&hall.table.shared, token, handles, renewed.is_ok());
+    renewed
+}
+
+/// Makes the map anew while other threads call, if there were no more renewals than these: waits for
+/// each lane, and gives all back. It answers whether it has made a new map. The token's guest has
+/// called nothing by it.
+pub(crate) fn renew_through<R: Wait>(
+    rt: &R,
+    hall: &Hall,
+    token: &mut Token,
+    shape: Shape,
+    renewals: u64,
+) -> Result<bool, RenewFault>
+    requires table { token.old.table_id ≡ hall.now.table.shared.table_id }
+    requires shape { shape.seats ≡ hall.now.table.shared.key.seats }
     requires idle { IsIdleToken token.old.me }
     ensures table { token.new.table_id ≡ token.old.table_id }
     ensures guest { IsSameGuest token.old.me.0 token.new.me.0 }
     ensures idle { IsIdleToken token.new.me }
+    ensures anew { result ≡ Ok true → token.new.me.0.map.chain.shape ≡ shape }
 {
-    let seats = shape.seats();
-    let handles = gather_all(rt, row, token, alloc, seats)?;
-    let (handles, renewed) = parted_anew(rt, alloc, handles, shape);
-    deal_renewed(row, token, handles, renewed.is_ok());
-    renewed
+    let row = &hall.table.shared;
+    let handles = gather_all(rt, row, token, hall.alloc, shape.seats())?;
+    if hall.renewals.load(Ordering::SeqCst) != renewals {
+        deal_all(row, token, handles);
+        return Ok(false);
+    }
+    renew_all(rt, hall, token, handles, shape)?;
+    Ok(true)
 }

@@ -1,6 +1,6 @@
 //! The shape of a map for so many keys.
 ghost use Rattle.std.specs.Prelude.{◌≡◌, ◌≤◌, max};
-ghost use Rattle.nb_core.specs.declared.shapes.TheConstants.{MOST_KEYS};
+ghost use Rattle.nb_core.specs.declared.shapes.TheConstants.{MAX_SEATS, MOST_KEYS};
 ghost use Rattle.nb_lasting.specs.inside.Present.{HasSlots};
 
 use nb_core::{MOST_KEYS, Shape};
@@ -8,12 +8,13 @@ use nb_core::{MOST_KEYS, Shape};
 /// The fewest keys that a map is made for.
 pub(crate) const LEAST: usize = 20;
 
-/// The shape for so many keys, or the greatest one, with one seat.
-pub(crate) fn shape_for(keys: usize) -> Shape
-    ensures seats { result.seats ≡ 1 }
+/// The shape for so many keys, or the greatest one, with so many seats.
+pub(crate) fn shape_for(keys: usize, seats: usize) -> Shape
+    requires seats { (1 ≤ seats) × (seats ≤ MAX_SEATS) }
+    ensures seats { result.seats ≡ seats }
     ensures slots { HasSlots keys result }
 {
-    match Shape::for_keys(keys.max(LEAST).min(MOST_KEYS), 1) {
+    match Shape::for_keys(keys.max(LEAST).min(MOST_KEYS), seats) {
         Ok(shape) => shape,
         Err(_) => unreachable!(),
     }

@@ -1,33 +1,38 @@
-//! Lanes that threads share: what their tokens know, and the steps of the table. It is in the making, and nothing of it is public.
+//! Lanes that threads share: what their tokens know, and the steps of the table.
 //!
-//! An `atomic_table` has a word and a slot for each lane. The slot holds the lane's handle, and the word is 1 while that is out. A
-//! guest's token takes its handle by a compare-exchange of 0 to 1, calls, and stores 0. Who renews takes all lanes in order, makes one
-//! whole handle of them, renews it, parts it, and deals the handles. A guest that makes no call holds up nobody.
+//! An `atomic_table` has a word and a slot for each lane. The slot holds the lane's handle, and the word is 0 while that is at home, 1
+//! while it is out, and 2 where somebody sleeps until it comes home. A guest's token takes its handle by a compare-exchange of 0, calls,
+//! and swaps 0 in; where that finds 2, it wakes one sleeper. Who renews takes all lanes in order, makes one whole handle of them, renews
+//! it, parts it, and deals the handles. A guest that makes no call holds up nobody. A token is private, and goes back into a guest only
+//! when it has no lane: so no lane is lost.
 //!
 //! The rule (`IsOneLog` in `specs/Shared.antt`): there is one map, with its epoch, and each handle at home is its lane's, of this map. In
 //! each lane a log is current: what the handle at home knows, or what it knew when it was taken. What the lane's guest has seen goes on to
 //! that by no call of the guest; a renewal that is refused for memory makes reads by the seats, so such reads may be among what is new.
-//! A lane is out exactly where one view has it, once. Each lane has one guest at most.
+//! A lane is out exactly where one view has it, once. Each lane has one guest at most. At the end one token takes the place of each guest
+//! in turn (`become_guest`), and its lane: so it learns that what each has seen goes on to the one log.
 //!
 //! What is left:
-//! - The end. One token learns what all guests have seen only if their tokens are joined to it: the view needs a list of lanes with what
-//!   their guests saw, and the rule that each is that. Then `OneLogForAll.ended` gives the log of all calls.
-//! - `renew_through` doesn't say yet that `Ok` means a new map.
-//! - The public type: a guest that makes all calls of a map, renews where it is full and calls again, with a guard that keeps a token from
-//!   being dropped while it has a lane, and who waits parks. `put_through` is the pattern of the other calls.
-ghost use Rattle.std.specs.Prelude.{[], Some, ℕ, ◌∷◌, ◌≡◌, ◌<◌, true, false};
-ghost use Rattle.nb_core.specs.Log.{reply_at};
-ghost use Rattle.nb_core.specs.declared.calls.Call.TheVariants as call;
-ghost use Rattle.nb_map.specs.NamedCalls.{put_of};
-ghost use Rattle.nb_lasting.specs.Shared.{HasBegunAnew, HasDealt, HasGiven, HasTaken, dealer_left, new_guest};
-ghost use Rattle.nb_lasting.specs.Holding.{CanDeal, CanGive, CanRenew, HasCalledIn, HasPutIn, IsIdleGuest};
+//! - No clause of a guest says that the map has 2^28 keys where it is full. It would go by `full` of `Handle::renew`.
+//! - No clause bounds a call's steps where no renewal comes between.
+ghost use Rattle.std.specs.Prelude.{[], Some, ℕ, ◌≡◌, ◌≢◌, ◌*◌, ◌<◌, ◌≤◌, true, false};
+ghost use Rattle.nb_lasting.specs.Shared.{HasBegunAnew, HasDealt, HasGiven, HasTaken, FitsLanes, as_guest, dealer_left, new_guest};
+ghost use Rattle.nb_lasting.specs.Holding.{CanDeal, CanGive, CanRenew};
 
-use atomic_table::{Play, Seat, Shared, Split, TableRule};
-use nb_core::{Event, Key, Num, Shape};
-use nb_map::{Full, Handle, Map};
+use atomic_table::{Join, Play, Seat, Shared, Split, TableRule};
+use nb_core::{Event, Shape};
+use nb_map::{Handle, Map};
 use std::collections::LinkedList;
 use std::sync::Wait;
-use std::thread;
+
+/// The words of two lanes lie so many words apart, so that no two are in one line of a cache.
+pub(crate) const SPACING: usize = 8;
+
+/// The word of a lane whose handle is out.
+const OUT: u64 = 1;
+
+/// The same, where somebody sleeps until it comes home.
+const AWAITED: u64 = 2;
 
 /// A lane whose handle a token has, and what that knew when it was taken. No value of it is made.
 pub struct Out {
@@ -65,6 +70,15 @@ impl Play<Option<Handle>, LaneView> for Leaving {
     ghost use Rattle.nb_lasting.specs.Shared.{Takes};
 
     ghost then = { Takes };
+}
+
+/// A lane's word is marked by who waits for it.
+pub(crate) struct Marking;
+
+impl Play<Option<Handle>, LaneView> for Marking {
+    ghost use Rattle.nb_lasting.specs.Shared.{Marks};
+
+    ghost then = { Marks };
 }
 
 /// A guest gives its handle back.
@@ -105,35 +119,68 @@ impl Split<LaneView> for Fork {
     ghost right = { new_guest };
 }
 
+/// A token takes the place of another, which makes no call.
+pub(crate) struct Merge;
+
+impl Join<LaneView> for Merge {
+    ghost use Rattle.nb_lasting.specs.Shared.{as_guest, nobody};
+
+    ghost both = { as_guest };
+
+    ghost spent = { nobody };
+}
+
 pub(crate) type Row = Shared<Option<Handle>, LaneView, Shape, Lanes>;
 
 pub(crate) type Token = Seat<Option<Handle>, LaneView>;
 
-/// Takes a lane's handle, if it is at home.
-pub(crate) fn take(row: &Row, token: &mut Token, lane: usize) -> bool
+/// Takes a lane's handle, if it is at home, and leaves this in its word.
+pub(crate) fn take(row: &Row, token: &mut Token, lane: usize, out: u64) -> bool
+    requires out { out ≢ 0 }
     requires table { token.old.table_id ≡ row.now.table_id }
     requires lane { lane < row.now.key.seats }
-    requires words { row.now.table_id.words ≡ row.now.key.seats }
+    requires words { row.now.table_id.words ≡ 8 * row.now.key.seats }
+    requires few { row.now.key.seats ≤ 256 }
     ensures table { token.new.table_id ≡ token.old.table_id }
     ensures taken { result ≡ true → HasTaken lane token.old.me token.new.me }
+    ensures seated { result ≡ true → FitsLanes row.now.table_id.slots token.new.me.0 }
     ensures kept { result ≡ false → token.new.me ≡ token.old.me }
 {
-    row.compare_exchange::<Leaving>(token, lane, 0, 1) == 0
+    row.compare_exchange::<Leaving>(token, SPACING * lane, 0, out) == 0
 }
 
-/// Takes a lane's handle, and waits while it is out.
+/// Marks a lane that is out, so that who gives it back wakes a sleeper.
+fn mark(row: &Row, token: &mut Token, lane: usize)
+    requires table { token.old.table_id ≡ row.now.table_id }
+    requires lane { lane < row.now.key.seats }
+    requires words { row.now.table_id.words ≡ 8 * row.now.key.seats }
+    requires few { row.now.key.seats ≤ 256 }
+    ensures table { token.new.table_id ≡ token.old.table_id }
+    ensures same { token.new.me ≡ token.old.me }
+{
+    row.compare_exchange::<Marking>(token, SPACING * lane, OUT, AWAITED);
+}
+
+/// Takes a lane's handle, and sleeps while it is out.
 pub(crate) fn hold<R: Wait>(rt: &R, row: &Row, token: &mut Token, lane: usize)
     requires table { token.old.table_id ≡ row.now.table_id }
     requires lane { lane < row.now.key.seats }
-    requires words { row.now.table_id.words ≡ row.now.key.seats }
+    requires words { row.now.table_id.words ≡ 8 * row.now.key.seats }
+    requires few { row.now.key.seats ≤ 256 }
     ensures table { token.new.table_id ≡ token.old.table_id }
     ensures taken { HasTaken lane token.old.me token.new.me }
+    ensures seated { FitsLanes row.now.table_id.slots token.new.me.0 }
 {
+    if take(row, token, lane, OUT) {
+        return;
+    }
     for _ in rt.forever() {
-        if take(row, token, lane) {
+        // It may not be the only one that waits.
+        if take(row, token, lane, AWAITED) {
             return;
         }
-        thread::yield_now();
+        mark(row, token, lane);
+        row.park(rt, SPACING * lane, AWAITED as u32);
     }
     unreachable!()
 }
@@ -142,42 +189,52 @@ pub(crate) fn hold<R: Wait>(rt: &R, row: &Row, token: &mut Token, lane: usize)
 pub(crate) fn give(row: &Row, token: &mut Token, lane: usize)
     requires table { token.old.table_id ≡ row.now.table_id }
     requires lane { lane < row.now.key.seats }
-    requires words { row.now.table_id.words ≡ row.now.key.seats }
+    requires words { row.now.table_id.words ≡ 8 * row.now.key.seats }
+    requires few { row.now.key.seats ≤ 256 }
     requires holds { CanGive lane token.old.me }
     ensures table { token.new.table_id ≡ token.old.table_id }
     ensures given { HasGiven token.old.me token.new.me }
 {
-    row.store::<Coming>(token, lane, 0);
+    if row.swap::<Coming>(token, SPACING * lane, 0) == AWAITED {
+        row.wake_one(SPACING * lane);
+    }
 }
 
 /// Gives a handle back after a renewal, of the map that the token knows.
 pub(crate) fn give_back(row: &Row, token: &mut Token, lane: usize)
     requires table { token.old.table_id ≡ row.now.table_id }
     requires lane { lane < row.now.key.seats }
-    requires words { row.now.table_id.words ≡ row.now.key.seats }
+    requires words { row.now.table_id.words ≡ 8 * row.now.key.seats }
+    requires few { row.now.key.seats ≤ 256 }
     requires holds { CanDeal lane token.old.me }
     ensures table { token.new.table_id ≡ token.old.table_id }
     ensures given { HasDealt token.old.me token.new.me }
 {
-    row.store::<Dealing>(token, lane, 0);
+    if row.swap::<Dealing>(token, SPACING * lane, 0) == AWAITED {
+        row.wake_one(SPACING * lane);
+    }
 }
 
 /// Gives the first handle of a new map back, while the token has all lanes.
 pub(crate) fn give_anew(row: &Row, token: &mut Token, lane: usize)
     requires table { token.old.table_id ≡ row.now.table_id }
     requires lane { lane < row.now.key.seats }
-    requires words { row.now.table_id.words ≡ row.now.key.seats }
+    requires words { row.now.table_id.words ≡ 8 * row.now.key.seats }
+    requires few { row.now.key.seats ≤ 256 }
     requires holds { CanRenew row.now.key lane token.old.me }
     ensures table { token.new.table_id ≡ token.old.table_id }
     ensures given { HasBegunAnew token.old.me token.new.me }
 {
-    row.store::<Anew>(token, lane, 0);
+    if row.swap::<Anew>(token, SPACING * lane, 0) == AWAITED {
+        row.wake_one(SPACING * lane);
+    }
 }
 
 /// A token for another guest, which has the next lane.
 pub(crate) fn another(row: &Row, token: &mut Token) -> Token
     requires table { token.old.table_id ≡ row.now.table_id }
-    requires words { row.now.table_id.words ≡ row.now.key.seats }
+    requires words { row.now.table_id.words ≡ 8 * row.now.key.seats }
+    requires few { row.now.key.seats ≤ 256 }
     requires room { (d : ℕ) × (token.old.me.0.dealer ≡ Some d) × (d < row.now.key.seats) }
     ensures table { (token.new.table_id ≡ token.old.table_id)
         × (result.table_id ≡ row.now.table_id) }
@@ -187,55 +244,14 @@ pub(crate) fn another(row: &Row, token: &mut Token) -> Token
     row.split_seat::<Fork>(token)
 }
 
-/// Reads through a lane.
-pub(crate) fn get_through<R: Wait>(
-    rt: &R,
-    row: &Row,
-    token: &mut Token,
-    lane: usize,
-    key: Key,
-) -> Option<Num>
-    requires table { token.old.table_id ≡ row.now.table_id }
-    requires lane { lane < row.now.key.seats }
-    requires words { row.now.table_id.words ≡ row.now.key.seats }
-    requires slots { row.now.table_id.slots ≡ row.now.key.seats }
-    requires idle { IsIdleGuest lane token.old.me }
+/// A token becomes the guest that another was, which makes no call.
+pub(crate) fn become_guest(row: &Row, token: &mut Token, other: Token)
+    requires table { (token.old.table_id ≡ row.now.table_id)
+        × (other.table_id ≡ row.now.table_id) }
+    requires words { 1 ≤ row.now.table_id.words }
+    requires idle { (other.me.0.outs ≡ []) × (other.me.1 ≡ []) }
     ensures table { token.new.table_id ≡ token.old.table_id }
-    ensures idle { IsIdleGuest lane token.new.me }
-    ensures called { HasCalledIn lane token.old.me.0 token.new.me.0
-        ((call.Get key, reply_at (call.Get key) result) ∷ []) }
+    ensures guest { token.new.me ≡ (as_guest token.old.me.0 other.me.0, token.old.me.1) }
 {
-    hold(rt, row, token, lane);
-    let Some(handle) = token.slot_mut(row, lane) else {
-        unreachable!();
-    };
-    let found = handle.get(key);
-    give(row, token, lane);
-    found
-}
-
-/// Puts a number at a key through a lane, and answers what was there.
-pub(crate) fn put_through<R: Wait>(
-    rt: &R,
-    row: &Row,
-    token: &mut Token,
-    lane: usize,
-    entry: (Key, Num),
-) -> Result<Option<Num>, Full>
-    requires table { token.old.table_id ≡ row.now.table_id }
-    requires lane { lane < row.now.key.seats }
-    requires words { row.now.table_id.words ≡ row.now.key.seats }
-    requires slots { row.now.table_id.slots ≡ row.now.key.seats }
-    requires idle { IsIdleGuest lane token.old.me }
-    ensures table { token.new.table_id ≡ token.old.table_id }
-    ensures idle { IsIdleGuest lane token.new.me }
-    ensures called { HasPutIn lane token.old.me.0 token.new.me.0 (put_of entry.0 entry.1) result }
-{
-    hold(rt, row, token, lane);
-    let Some(handle) = token.slot_mut(row, lane) else {
-        unreachable!();
-    };
-    let found = handle.put(rt, entry.0, entry.1);
-    give(row, token, lane);
-    found
+    row.join_seat::<Merge>(token, other);
 }

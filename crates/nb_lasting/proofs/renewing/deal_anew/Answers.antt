@@ -1,6 +1,6 @@
 use Rattle.std.proofs.Common.{◌≡◌, ◌∙◌, ◌++◌, ◌∷◌, [], ◌+◌, Some, ap, subst, sym, arith}
 use Rattle.std.specs.Prelude.{None}
-use Rattle.nb_lasting.proofs.Dealt.{begun, can-renew, slot_is}
+use Rattle.nb_lasting.proofs.Dealt.{begun, begun-map, can-renew, slot_is}
 use Rattle.nb_lasting.proofs.renewing.deal_anew.Goals as goal
 
 pub exchange-requires : goal.exchange-requires
@@ -12,6 +12,12 @@ give_anew-requires-clause-holds c =
     can-renew c.args.lane c.args.token.now.me c.exchange.new.seat.me c.exchange.new.seat.me
     c.pop.new.self.items c.args.handles.now.items c.in-Some.handle c.in-Some.ensures.items
     c.exchange.ensures.3 c.args.row.now.key c.requires.lane c.requires.holds
+
+pub returns-clause-map : goal.returns-clause-map
+returns-clause-map c can =
+    begun-map c.args.lane c.args.token.now.me c.exchange.new.seat.me c.give_anew.new.token.me
+    c.pop.new.self.items c.args.handles.now.items c.in-Some.handle c.in-Some.ensures.items
+    c.exchange.ensures.3 can c.give_anew.ensures.given
 
 pub returns-clause-holds : goal.returns-clause-holds
 returns-clause-holds c =

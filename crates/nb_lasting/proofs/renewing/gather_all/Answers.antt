@@ -8,6 +8,7 @@ loop-lane-init g c = record {
   guest = record { guest = refl; seen = refl; dealer = refl };
   room = omega (arith, c.in_ok-handles.ensures.capacity);
   count = ap length c.in_ok-handles.ensures.items;
+  seated = λ some. absurd (omega (arith, some));
   holds = holds-none c.args.token.now.me c.in_ok-handles.handles.items c.in_ok-handles.ensures.items
       c.requires.idle;
 }

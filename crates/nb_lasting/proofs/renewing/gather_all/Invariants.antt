@@ -1,5 +1,6 @@
 use Rattle.std.proofs.Common.{◌≡◌, ◌≤◌, length, vec_capacity}
 use Rattle.nb_lasting.specs.Renewal.{HoldsBelow, IsSameGuest}
+use Rattle.nb_lasting.specs.Shared.{FitsLanes}
 use Rattle.nb_lasting.proofs.renewing.gather_all.Given as goal
 
 abbrev pub invariant-loop-lane : goal.invariant-loop-lane
@@ -8,5 +9,6 @@ invariant-loop-lane g l = record {
   guest : IsSameGuest l.fn.token.me.0 l.token.me.0;
   room : l.fn.seats ≤ vec_capacity l.handles;
   count : length l.handles.items ≡ l.lane;
+  seated : 1 ≤ l.lane → FitsLanes l.fn.row.table_id.slots l.token.me.0;
   holds : HoldsBelow l.lane l.token.me l.handles.items;
 }

@@ -1,32 +1,25 @@
-use Rattle.std.proofs.Common.{◌≡◌, ◌∙◌, ◌≤◌, ap, subst, sym, true, false, arith}
+use Rattle.std.proofs.Common.{◌≡◌, ◌∙◌, ◌≤◌, subst, sym, arith}
 use Rattle.nb_lasting.specs.Renewal.{HoldsBelow}
-use Rattle.nb_lasting.proofs.Dealt.{all-single, deals}
+use Rattle.nb_lasting.specs.Shared.{FitsLanes}
+use Rattle.nb_lasting.proofs.Dealt.{as-held}
 use Rattle.nb_lasting.proofs.renewing.renew_through.Goals as goal
 
-pub parted_anew-handles-requires : goal.parted_anew-handles-requires
-parted_anew-handles-requires g c =
-    let plan = c.seats-seats.ensures.plan in
-    record {
-      single = all-single c.args.shape.seats c.gather_all.new.token.me c.in_ok-handles.handles.items
-          plan.seats.0 plan.seats.1
-          (subst (λ n. HoldsBelow n c.gather_all.new.token.me c.in_ok-handles.handles.items)
-          c.seats-seats.ensures.number c.in_ok-handles.ensures.holds);
-    }
+pub deal_all-requires-clause-lanes : goal.deal_all-requires-clause-lanes
+deal_all-requires-clause-lanes g c =
+    omega (arith, c.in_ok-handles.ensures.holds.held.count, c.seats.ensures.number, c.requires.shape)
 
-pub deal_renewed-requires : goal.deal_renewed-requires
-deal_renewed-requires g c =
-    let plan = c.seats-seats.ensures.plan in
-    let done = deals c.args.shape c.gather_all.new.token.me c.in_ok-handles.handles.items
-    c.parted_anew-handles.result.0.items plan.seats.0 plan.seats.1
-    (subst (λ n. HoldsBelow n c.gather_all.new.token.me c.in_ok-handles.handles.items)
-    c.seats-seats.ensures.number c.in_ok-handles.ensures.holds)
-    c.parted_anew-handles.result.1 c.parted_anew-handles.ensures in
-    let seats : c.args.shape.seats ≡ c.args.row.now.key.seats = c.requires.shape in
-    record {
-      table = c.gather_all.ensures.table ∙ c.requires.table;
-      lanes = done.0 ∙ seats;
-      some = subst (λ n. 1 ≤ n) seats plan.seats.0;
-      words = c.requires.words;
-      anew = λ good. done.1 (sym c.is_ok.ensures.value ∙ good);
-      as_before = λ bad. done.2 (sym c.is_ok.ensures.value ∙ bad);
-    }
+pub deal_all-requires-clause-holds : goal.deal_all-requires-clause-holds
+deal_all-requires-clause-holds g c =
+    as-held c.seats.result c.gather_all.new.token.me c.in_ok-handles.handles.items
+    c.in_ok-handles.ensures.holds
+
+pub renew_all-requires-clause-seated : goal.renew_all-requires-clause-seated
+renew_all-requires-clause-seated g c =
+    subst (λ n. FitsLanes n c.gather_all.new.token.me.0) (c.args.hall.now.slots ∙ sym c.requires.shape)
+    (c.in_ok-handles.ensures.seated
+    (omega (arith, c.seats.ensures.number, c.requires.shape, c.args.hall.now.some)))
+
+pub renew_all-requires-clause-holds : goal.renew_all-requires-clause-holds
+renew_all-requires-clause-holds g c =
+    subst (λ n. HoldsBelow n c.gather_all.new.token.me c.in_ok-handles.handles.items)
+    c.seats.ensures.number c.in_ok-handles.ensures.holds

@@ -2,8 +2,8 @@ use Rattle.std.proofs.Common.{◌≡◌, ◌<◌, arith}
 use Rattle.nb_lasting.proofs.Sharing.{anew_allowed}
 use Rattle.nb_lasting.proofs.shared.give_anew.Goals as goal
 
-pub store-requires : goal.store-requires
-store-requires c =
+pub swap-requires : goal.swap-requires
+swap-requires c =
     let h = c.requires.holds in (
       c.requires.table,
       omega (arith, c.requires.lane, c.requires.words),

@@ -1,4 +1,5 @@
-use Rattle.std.proofs.Common.{◌≡◌, ◌<◌, arith}
+use Rattle.std.proofs.Common.{◌≡◌, ◌<◌, refl, arith}
+use Rattle.std.proofs.lemmas.Bool.Decides.{nat_tests}
 use Rattle.nb_lasting.proofs.Sharing.{take_allowed}
 use Rattle.nb_lasting.proofs.shared.take.Goals as goal
 
@@ -7,5 +8,15 @@ compare_exchange-requires c = (
   c.requires.table,
   omega (arith, c.requires.lane, c.requires.words),
   take_allowed c.args.row.now.key c.args.row.now.table_id.slots c.args.token.now.id
-      c.args.token.now.me c.args.lane c.requires.lane,
+      c.args.token.now.me c.args.lane c.requires.lane c.args.out c.requires.out,
 )
+
+pub returns-clause-taken : goal.returns-clause-taken
+returns-clause-taken c good =
+    let home : c.compare_exchange.result ≡ 0 = grind (arith, nat_tests, good) in
+    (c.compare_exchange.ensures.2.0 home c.args.lane refl).0
+
+pub returns-clause-seated : goal.returns-clause-seated
+returns-clause-seated c good =
+    let home : c.compare_exchange.result ≡ 0 = grind (arith, nat_tests, good) in
+    (c.compare_exchange.ensures.2.0 home c.args.lane refl).1

@@ -1,9 +1,8 @@
 use Rattle.std.proofs.Common.{◌≡◌, ◌∙◌, [], ◌∷◌, Some, true, refl, subst, sym}
-use Rattle.nb_core.specs.declared.calls.Call.TheVariants.{Get}
 use Rattle.nb_map.specs.Handles.{KeepsRest}
 use Rattle.nb_map.specs.Logs.{HasLogged}
 use Rattle.nb_lasting.proofs.Calling.{can-give, has-called, idle-again, slot-rest, taken-is}
-use Rattle.nb_lasting.proofs.shared.get_through.Goals as goal
+use Rattle.nb_lasting.proofs.through.crowded_through.Goals as goal
 
 pub slot_mut-requires : goal.slot_mut-requires
 slot_mut-requires g c = (
@@ -20,31 +19,22 @@ give-requires-clause-holds g c =
     let same = taken-is c.args.lane c.args.token.now.me c.hold.new.token.me c.hold.ensures.taken
     c.slot_mut.result.now c.in-Some.handle c.slot_mut.ensures.value c.in-Some.is in
     can-give c.args.lane c.args.token.now.me c.hold.new.token.me c.hold.ensures.taken
-    c.get-found.new.self
-    ((Get c.args.key, record { before = c.get-found.result; matched = true }) ∷ []) c.requires.idle
-    (subst (λ h. KeepsRest h c.get-found.new.self) (sym same) c.get-found.ensures.rest)
-    (subst (λ h. HasLogged h.seat c.get-found.new.self.seat
-    ((Get c.args.key, record { before = c.get-found.result; matched = true }) ∷ [])) (sym same)
-    c.get-found.ensures.got.replied) _ refl
+    c.occupancy.new.self [] c.requires.idle
+    (subst (λ h. KeepsRest h c.occupancy.new.self) (sym same) c.occupancy.ensures.rest)
+    (subst (λ h. HasLogged h.seat c.occupancy.new.self.seat []) (sym same) c.occupancy.ensures.looked.logged) _ refl
 
 pub returns : goal.returns
 returns g c =
     let same = taken-is c.args.lane c.args.token.now.me c.hold.new.token.me c.hold.ensures.taken
     c.slot_mut.result.now c.in-Some.handle c.slot_mut.ensures.value c.in-Some.is in
-    let keeps = subst (λ h. KeepsRest h c.get-found.new.self) (sym same) c.get-found.ensures.rest in
-    let logged = subst (λ h. HasLogged h.seat c.get-found.new.self.seat
-    ((Get c.args.key, record { before = c.get-found.result; matched = true }) ∷ [])) (sym same)
-    c.get-found.ensures.got.replied in
+    let keeps = subst (λ h. KeepsRest h c.occupancy.new.self) (sym same) c.occupancy.ensures.rest in
+    let logged = subst (λ h. HasLogged h.seat c.occupancy.new.self.seat []) (sym same) c.occupancy.ensures.looked.logged in
     record {
       table = c.give.ensures.table ∙ c.hold.ensures.table;
       idle = idle-again c.args.lane c.args.token.now.me c.hold.new.token.me c.hold.ensures.taken
-          c.get-found.new.self
-          ((Get c.args.key, record { before = c.get-found.result; matched = true }) ∷ [])
-          c.requires.idle keeps logged _ refl c.give.new.token.me
+          c.occupancy.new.self [] c.requires.idle keeps logged _ refl c.give.new.token.me
           c.give.ensures.given;
-      called = has-called c.args.lane c.args.token.now.me c.hold.new.token.me
-          c.hold.ensures.taken c.get-found.new.self
-          ((Get c.args.key, record { before = c.get-found.result; matched = true }) ∷ [])
-          c.requires.idle keeps logged _ refl
-          c.give.new.token.me c.give.ensures.given;
+      called = has-called c.args.lane c.args.token.now.me c.hold.new.token.me c.hold.ensures.taken
+          c.occupancy.new.self [] c.requires.idle keeps logged _ refl c.give.new.token.me
+          c.give.ensures.given;
     }

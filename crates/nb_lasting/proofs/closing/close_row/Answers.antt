@@ -1,0 +1,41 @@
+use Rattle.std.proofs.Common.{◌≡◌, ◌∙◌, ◌≤◌, ap, length, refl, subst, sym, arith}
+use Rattle.nb_lasting.specs.Shared.{FitsLanes}
+use Rattle.nb_lasting.proofs.Closed.{have-ended, whole-seats}
+use Rattle.nb_lasting.proofs.Dealt.{all-single, single-map}
+use Rattle.nb_lasting.proofs.Joined.{never-both}
+use Rattle.nb_lasting.proofs.closing.close_row.Goals as goal
+
+pub joined-requires : goal.joined-requires
+joined-requires g c = record {
+  single = all-single (length c.args.guests.items) c.gather_guests-handles.new.token.me
+      c.gather_guests-handles.result.items
+      (subst (λ n. 1 ≤ n) (sym c.requires.all.count) c.requires.some)
+      (subst (λ n. n ≤ 256) (sym c.requires.all.count) c.requires.few)
+      c.gather_guests-handles.ensures.gathered.holds;
+}
+
+pub unreachable-requires : goal.unreachable-requires
+unreachable-requires g c =
+    let some = subst (λ n. 1 ≤ n) (sym c.requires.all.count) c.requires.some in
+    let few = subst (λ n. n ≤ 256) (sym c.requires.all.count) c.requires.few in
+    let seated = subst (λ n. FitsLanes n c.gather_guests-handles.new.token.me.0)
+    (c.requires.slots ∙ sym c.requires.all.count) (c.gather_guests-handles.ensures.seated some) in
+    let holds = c.gather_guests-handles.ensures.gathered.holds in
+    let me = c.gather_guests-handles.new.token.me in
+    let handles = c.gather_guests-handles.result.items in
+    let n = length c.args.guests.items in
+    never-both c.close.result c.in-Err.field-0 c.in-Err.is
+    (c.close.ensures.all.1
+    (whole-seats n me handles c.joined.result holds seated c.joined.ensures.seats
+    (c.joined.ensures.map (all-single n me handles some few holds)
+    ∙ single-map n me handles some few holds)))
+
+pub returns : goal.returns
+returns g c =
+    let some = subst (λ n. 1 ≤ n) (sym c.requires.all.count) c.requires.some in
+    let seated = subst (λ n. FitsLanes n c.gather_guests-handles.new.token.me.0)
+    (c.requires.slots ∙ sym c.requires.all.count) (c.gather_guests-handles.ensures.seated some) in
+    have-ended (length c.args.guests.items) c.args.guests.items c.gather_guests-handles.new.token.me
+    c.gather_guests-handles.result.items c.joined.result c.in-Ok.ended
+    c.gather_guests-handles.ensures.gathered seated some refl c.joined.ensures.seats
+    c.in-Ok.ensures.ended

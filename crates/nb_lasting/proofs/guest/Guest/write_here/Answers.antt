@@ -1,0 +1,21 @@
+use Rattle.std.proofs.Common.{◌≡◌, ◌∷◌, [], refl, subst}
+use Rattle.nb_core.specs.declared.calls.Call.TheVariants.{Write}
+use Rattle.nb_lasting.specs.inside.Guests.{HasWrittenHere}
+use Rattle.nb_core.specs.Log.{log_of}
+use Rattle.nb_lasting.specs.Guests.{GuestHasCalled, GuestOf}
+use Rattle.nb_lasting.specs.inside.Guests.{guest_of}
+use Rattle.nb_lasting.proofs.Visiting.{written-through}
+use Rattle.nb_lasting.proofs.guest.Guest.write_here.Goals as goal
+
+pub returns : goal.returns
+returns g c =
+    let after : GuestOf = record {
+      of = (guest_of c.self.inside).of;
+      number = c.self.inside.lane;
+      log = log_of c.write_through.new.token.me.0.seen;
+    } in
+    let call = Write c.args.key c.args.want.now c.args.change.now in
+    subst (λ (guest : GuestOf). HasWrittenHere call guest after c.write_through.result) c.self.view_is
+    (written-through call (guest_of c.self.inside) after c.self.inside.token.me.0
+    c.write_through.new.token.me.0 c.write_through.result refl refl refl refl
+    c.write_through.ensures.called)

@@ -1,0 +1,12 @@
+use Rattle.std.proofs.Common.{◌≡◌, ◌∙◌, ◌+◌, length, subst, arith}
+use Rattle.std.specs.Prelude.{◌-◌}
+use Rattle.nb_lasting.specs.Renewal.{CanDealAnew}
+use Rattle.nb_lasting.proofs.renewing.deal_renewed.Goals as goal
+
+pub returns-then-renewed-clause-map : goal.returns-then-renewed-clause-map
+returns-then-renewed-clause-map c good can =
+    let n : (c.len-lane.result - 1) + 1 ≡ length c.args.handles.items =
+    omega (arith, c.len-lane.ensures, c.requires.lanes, c.requires.some) in
+    c.deal_all.ensures.map
+    ∙ subst (λ k. (can : CanDealAnew k c.args.token.now.me c.args.handles.items)
+    → c.deal_anew.new.token.me.0.map ≡ can.anew.shared) n c.deal_anew.ensures.map can

@@ -1,0 +1,43 @@
+use Rattle.std.proofs.Common.{◌≡◌, ◌∙◌, ◌≤◌, ap, subst, sym, true, false, arith}
+use Rattle.nb_map.specs.Maps.{MapOf}
+use Rattle.nb_lasting.proofs.Dealt.{all-single, deals, on_ok}
+use Rattle.nb_lasting.proofs.renewing.renew_all.Goals as goal
+
+pub parted_anew-handles-requires : goal.parted_anew-handles-requires
+parted_anew-handles-requires g c =
+    let seats = c.requires.shape in
+    record {
+      single = all-single c.args.shape.seats c.args.token.now.me c.args.handles.items
+          (subst (λ n. 1 ≤ n) (sym seats) c.args.hall.now.some) (subst (λ n. n ≤ 256) (sym seats) c.args.hall.now.few)
+          c.requires.holds;
+    }
+
+pub deal_renewed-requires : goal.deal_renewed-requires
+deal_renewed-requires g c =
+    let seats = c.requires.shape in
+    let done = deals c.args.shape c.args.token.now.me c.args.handles.items
+    c.parted_anew-handles.result.0.items (subst (λ n. 1 ≤ n) (sym seats) c.args.hall.now.some)
+    (subst (λ n. n ≤ 256) (sym seats) c.args.hall.now.few) c.requires.seated c.requires.holds
+    c.parted_anew-handles.result.1 c.parted_anew-handles.ensures in
+    record {
+      table = c.requires.table;
+      lanes = done.0 ∙ seats;
+      some = c.args.hall.now.some;
+      words = c.args.hall.now.words;
+      few = c.args.hall.now.few;
+      anew = λ good. (done.1 (sym c.is_ok.ensures.value ∙ good)).0;
+      as_before = λ bad. done.2 (sym c.is_ok.ensures.value ∙ bad);
+    }
+
+pub returns-clause-anew : goal.returns-clause-anew
+returns-clause-anew g c =
+    let seats = c.requires.shape in
+    let done = deals c.args.shape c.args.token.now.me c.args.handles.items
+    c.parted_anew-handles.result.0.items (subst (λ n. 1 ≤ n) (sym seats) c.args.hall.now.some)
+    (subst (λ n. n ≤ 256) (sym seats) c.args.hall.now.few) c.requires.seated c.requires.holds
+    c.parted_anew-handles.result.1 c.parted_anew-handles.ensures in
+    on_ok c.parted_anew-handles.result.1 (λ good.
+    let shaped = done.1 good in
+    ap (λ (m : MapOf). m.chain.shape)
+    (c.deal_renewed.ensures.map (c.is_ok.ensures.value ∙ good) shaped.0)
+    ∙ shaped.1)

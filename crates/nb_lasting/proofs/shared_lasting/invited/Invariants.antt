@@ -1,0 +1,15 @@
+use Rattle.std.proofs.Common.{◌≡◌, ◌≤◌, [], All, Some, length, vec_capacity}
+use Rattle.std.specs.Arc.{arc_value}
+use Rattle.nb_lasting.specs.Closing.{AreNew}
+use Rattle.nb_lasting.proofs.shared_lasting.invited.Given as goal
+
+abbrev pub invariant-loop-lane : goal.invariant-loop-lane
+invariant-loop-lane l = record {
+  table : l.token.table_id ≡ l.fn.token.table_id;
+  deals : l.token.me.0.dealer ≡ Some l.lane;
+  outs : l.token.me.0.outs ≡ [];
+  slots : l.token.me.1 ≡ [];
+  room : l.fn.guests ≤ vec_capacity l.made;
+  of : All (λ guest. guest.of ≡ (arc_value l.fn.hall).table.shared.table_id) l.made.items;
+  come : AreNew l.lane (arc_value l.fn.hall).table.shared.table_id l.made.items;
+}

@@ -1,0 +1,40 @@
+use Rattle.std.proofs.Common.{◌≡◌, ◌∙◌, [], ◌∷◌, Some, true, refl, subst, sym}
+use Rattle.nb_map.specs.Handles.{KeepsRest}
+use Rattle.nb_map.specs.Logs.{HasLogged}
+use Rattle.nb_lasting.proofs.Calling.{can-give, has-called, idle-again, slot-rest, taken-is}
+use Rattle.nb_lasting.proofs.through.size_through.Goals as goal
+
+pub slot_mut-requires : goal.slot_mut-requires
+slot_mut-requires g c = (
+  c.hold.ensures.table ∙ c.requires.table,
+  (
+    Some c.hold.ensures.taken.handle,
+    slot-rest c.args.lane (Some c.hold.ensures.taken.handle) c.hold.new.token.me.1
+        c.args.token.now.me.1 c.hold.ensures.taken.slots,
+  ),
+)
+
+pub give-requires-clause-holds : goal.give-requires-clause-holds
+give-requires-clause-holds g c =
+    let same = taken-is c.args.lane c.args.token.now.me c.hold.new.token.me c.hold.ensures.taken
+    c.slot_mut.result.now c.in-Some.handle c.slot_mut.ensures.value c.in-Some.is in
+    can-give c.args.lane c.args.token.now.me c.hold.new.token.me c.hold.ensures.taken
+    c.size_estimate-size.new.self [] c.requires.idle
+    (subst (λ h. KeepsRest h c.size_estimate-size.new.self) (sym same) c.size_estimate-size.ensures.rest)
+    (subst (λ h. HasLogged h.seat c.size_estimate-size.new.self.seat []) (sym same) c.size_estimate-size.ensures.looked.logged) _ refl
+
+pub returns : goal.returns
+returns g c =
+    let same = taken-is c.args.lane c.args.token.now.me c.hold.new.token.me c.hold.ensures.taken
+    c.slot_mut.result.now c.in-Some.handle c.slot_mut.ensures.value c.in-Some.is in
+    let keeps = subst (λ h. KeepsRest h c.size_estimate-size.new.self) (sym same) c.size_estimate-size.ensures.rest in
+    let logged = subst (λ h. HasLogged h.seat c.size_estimate-size.new.self.seat []) (sym same) c.size_estimate-size.ensures.looked.logged in
+    record {
+      table = c.give.ensures.table ∙ c.hold.ensures.table;
+      idle = idle-again c.args.lane c.args.token.now.me c.hold.new.token.me c.hold.ensures.taken
+          c.size_estimate-size.new.self [] c.requires.idle keeps logged _ refl c.give.new.token.me
+          c.give.ensures.given;
+      called = has-called c.args.lane c.args.token.now.me c.hold.new.token.me c.hold.ensures.taken
+          c.size_estimate-size.new.self [] c.requires.idle keeps logged _ refl c.give.new.token.me
+          c.give.ensures.given;
+    }

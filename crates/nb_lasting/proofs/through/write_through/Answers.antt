@@ -1,0 +1,57 @@
+use Rattle.std.proofs.Common.{◌≡◌, ◌∙◌, [], ◌∷◌, Some, true, refl, subst, sym}
+use Rattle.nb_map.specs.Handles.{KeepsRest}
+use Rattle.nb_map.specs.Logs.{HasLogged}
+use Rattle.nb_core.specs.declared.calls.Call.TheVariants.{Write}
+use Rattle.nb_lasting.proofs.Calling.{can-give, has-called, idle-again, map-is, slot-rest, taken-is, write-logged}
+use Rattle.nb_lasting.proofs.through.write_through.Goals as goal
+
+pub slot_mut-requires : goal.slot_mut-requires
+slot_mut-requires g c = (
+  c.hold.ensures.table ∙ c.requires.table,
+  (
+    Some c.hold.ensures.taken.handle,
+    slot-rest c.args.lane (Some c.hold.ensures.taken.handle) c.hold.new.token.me.1
+        c.args.token.now.me.1 c.hold.ensures.taken.slots,
+  ),
+)
+
+pub give-requires-clause-holds : goal.give-requires-clause-holds
+give-requires-clause-holds g c =
+    let same = taken-is c.args.lane c.args.token.now.me c.hold.new.token.me c.hold.ensures.taken
+    c.slot_mut.result.now c.in-Some.handle c.slot_mut.ensures.value c.in-Some.is in
+    let wrote = write-logged c.in-Some.handle.map
+    (Write c.args.key c.args.want.now c.args.change.now) c.in-Some.handle.seat
+    c.put_if_match-reply.new.self.seat _ c.put_if_match-reply.result
+    c.put_if_match-reply.ensures.wrote in
+    can-give c.args.lane c.args.token.now.me c.hold.new.token.me c.hold.ensures.taken
+    c.put_if_match-reply.new.self wrote.0 c.requires.idle
+    (subst (λ h. KeepsRest h c.put_if_match-reply.new.self) (sym same)
+    c.put_if_match-reply.ensures.rest)
+    (subst (λ h. HasLogged h.seat c.put_if_match-reply.new.self.seat wrote.0) (sym same) wrote.1) _
+    refl
+
+pub returns : goal.returns
+returns g c =
+    let same = taken-is c.args.lane c.args.token.now.me c.hold.new.token.me c.hold.ensures.taken
+    c.slot_mut.result.now c.in-Some.handle c.slot_mut.ensures.value c.in-Some.is in
+    let wrote = write-logged c.in-Some.handle.map
+    (Write c.args.key c.args.want.now c.args.change.now) c.in-Some.handle.seat
+    c.put_if_match-reply.new.self.seat _ c.put_if_match-reply.result
+    c.put_if_match-reply.ensures.wrote in
+    let keeps = subst (λ h. KeepsRest h c.put_if_match-reply.new.self) (sym same)
+    c.put_if_match-reply.ensures.rest in
+    let logged = subst (λ h. HasLogged h.seat c.put_if_match-reply.new.self.seat wrote.0) (sym same)
+    wrote.1 in
+    record {
+      table = c.give.ensures.table ∙ c.hold.ensures.table;
+      idle = idle-again c.args.lane c.args.token.now.me c.hold.new.token.me c.hold.ensures.taken
+          c.put_if_match-reply.new.self wrote.0 c.requires.idle keeps logged _ refl
+          c.give.new.token.me c.give.ensures.given;
+      called = wrote.2 c.args.lane c.args.token.now.me.0 c.give.new.token.me.0
+          (has-called c.args.lane c.args.token.now.me c.hold.new.token.me c.hold.ensures.taken
+          c.put_if_match-reply.new.self wrote.0 c.requires.idle keeps logged _ refl
+          c.give.new.token.me c.give.ensures.given)
+          (map-is c.args.lane c.args.token.now.me c.hold.new.token.me c.hold.ensures.taken
+          c.put_if_match-reply.new.self wrote.0 c.requires.idle keeps logged _ refl
+          c.give.new.token.me c.give.ensures.given);
+    }

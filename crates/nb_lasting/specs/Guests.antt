@@ -1,0 +1,134 @@
+-- A map without an end that guests share, each in a thread of its own: what their calls promise, and
+-- what holds at its end. It is told in words of calls alone.
+use Rattle.std.specs.Prelude.{◌≡◌, ◌<◌, ◌∷◌, ◌++◌, ◌⊎◌, ℕ, Bool, true, List, [], All, Option, Some, length, slice_get}
+use Rattle.atomic_table.specs.Seated.{TableId}
+use Rattle.nb_core.specs.Calls.{Fills, overflows}
+use Rattle.nb_core.specs.Log.{Entry, IsReplayed, calls_of, map_of_log}
+use Rattle.nb_core.specs.declared.calls.Call.{Call}
+use Rattle.nb_core.specs.declared.calls.Reply.{Reply}
+use Rattle.nb_map.specs.Ending.{EndedOf, map_left}
+use Rattle.nb_map.specs.Entries.{IsRead}
+use Rattle.nb_lasting.specs.Epochs.{HasGoneOnBy}
+use Rattle.nb_lasting.specs.Shared.{IsOfGuest}
+use Rattle.nb_lasting.specs.declared.faults.WriteFault.TheVariants as fault
+use Rattle.nb_lasting.specs.declared.faults.WriteFault.{WriteFault}
+
+-- a guest: the map that it is of, its number there, and the log that it knows: the calls of all
+-- guests until its last call
+pub record GuestOf : Type 0 where
+  pub of : TableId
+  pub number : ℕ
+  pub log : List Entry
+
+-- a map that guests share: which one it is, and how many guests it has
+pub record SharedOf : Type 0 where
+  pub id : TableId
+  pub guests : ℕ
+
+-- ---- a guest's calls
+
+-- these are all the calls but for some reads
+abbrev pub LacksReads : (made all : List (Call × Reply)) → Type 0
+LacksReads made [] = made ≡ []
+LacksReads made (call ∷ all) =
+    (IsRead call × LacksReads made all)
+    ⊎ ((rest : List (Call × Reply)) × (made ≡ call ∷ rest) × LacksReads rest all)
+
+-- The log goes on to this one. All of it is replayed, and of what is new just these calls are the
+-- guest's, the newest first; and maybe reads in its name, by renewals that were refused for want of
+-- memory.
+pub record GoesOnTo (guest : GuestOf) (whole : List Entry) (made : List (Call × Reply)) :
+    Type 0 where
+  pub own : List (Call × Reply)
+  pub are : LacksReads made own
+  pub gone : HasGoneOnBy guest.number guest.log whole own
+
+-- the guest has made just these calls, the newest first
+pub record GuestHasCalled (before after : GuestOf) (made : List (Call × Reply)) : Type 0 where
+  pub of : after.of ≡ before.of
+  pub number : after.number ≡ before.number
+  pub log : GoesOnTo before after.log made
+
+-- it has made this one call, which replies this
+abbrev pub GuestHasReplied : Call → (before after : GuestOf) → Reply → Type 0
+GuestHasReplied call before after reply = GuestHasCalled before after ((call, reply) ∷ [])
+
+-- it has made this one call, which found this number at its key, or none
+abbrev pub GuestHasFound : Call → (before after : GuestOf) → Option ℕ → Type 0
+GuestHasFound call before after found =
+    (reply : Reply) × (reply.before ≡ found) × GuestHasReplied call before after reply
+
+-- it has made this one call, and this is whether its condition held
+abbrev pub GuestHasMatched : Call → (before after : GuestOf) → Bool → Type 0
+GuestHasMatched call before after matched =
+    (reply : Reply) × (reply.matched ≡ matched) × GuestHasReplied call before after reply
+
+-- Why a write may be refused: only one that puts a number at an absent key takes room, or memory; and
+-- an add is refused where its sum is past the range, in the map that the log leaves.
+abbrev pub IsWhyRefused : Call → List Entry → WriteFault → Type 0
+IsWhyRefused call log fault.Full = Fills call
+IsWhyRefused call log fault.OutOfMemory = Fills call
+IsWhyRefused call log fault.ValueRange = overflows call (map_of_log log) ≡ true
+
+-- the call is refused, and isn't made
+pub record GuestIsRefused (call : Call) (before after : GuestOf) (fault : WriteFault) :
+    Type 0 where
+  pub unmade : GuestHasCalled before after []
+  pub why : IsWhyRefused call after.log fault
+
+-- ---- the beginning and the end
+
+-- so many guests of a map that nobody has called yet, numbered by their places
+pub record HaveCome (n : ℕ) (shared : SharedOf) (guests : List GuestOf) : Type 0 where
+  pub many : shared.guests ≡ n
+  pub count : length guests ≡ n
+  pub of : All (λ guest. guest.of ≡ shared.id) guests
+  pub each :
+      (i : ℕ) (guest : GuestOf) → slice_get guests i ≡ Some guest
+      → guest ≡ record { of = shared.id; number = i; log = [] }
+
+-- they are all guests of the map, in their order
+pub record AreAllGuests (shared : SharedOf) (guests : List GuestOf) : Type 0 where
+  pub count : length guests ≡ shared.guests
+  pub numbered :
+      (i : ℕ) (guest : GuestOf) → slice_get guests i ≡ Some guest → guest.number ≡ i
+
+-- There is one log of all calls, and it is replayed. Each guest's log goes on to it by no call of
+-- that guest, and each entry is one guest's. The map that it leaves is what is left.
+pub record HaveEnded (guests : List GuestOf) (ended : EndedOf) : Type 0 where
+  pub whole : List Entry
+  pub replayed : IsReplayed whole
+  pub leaves : map_left ended ≡ map_of_log whole
+  pub each :
+      (i : ℕ) (guest : GuestOf) → slice_get guests i ≡ Some guest → GoesOnTo guest whole []
+  pub made : All (IsOfGuest (length guests)) whole
+
+-- ---- the laws
+
+-- what a guest has called adds up
+abbrev pub CallsAddUp : Type 0
+CallsAddUp =
+    (first middle last : GuestOf) (made later : List (Call × Reply)) → GuestHasCalled first middle made
+    → GuestHasCalled middle last later → GuestHasCalled first last (later ++ made)
+
+-- each guest has made these calls since it came, the newest first
+pub record HaveCalled (n : ℕ) (new last : List GuestOf) (made : ℕ → List (Call × Reply)) :
+    Type 0 where
+  pub count : length last ≡ n
+  pub each :
+      (i : ℕ) (first guest : GuestOf) → slice_get new i ≡ Some first → slice_get last i ≡ Some guest
+      → GuestHasCalled first guest (made i)
+
+-- There is one log of just these calls of the guests: each guest's, each once, in its order. It is
+-- replayed, and leaves what is left.
+abbrev pub IsOneLogOf : (n : ℕ) → (made : ℕ → List (Call × Reply)) → EndedOf → Type 0
+IsOneLogOf n made ended =
+    (log : List Entry) × IsReplayed log × (map_left ended ≡ map_of_log log)
+    × ((i : ℕ) → i < n → calls_of i log ≡ made i) × All (IsOfGuest n) log
+
+-- whatever calls the guests have made of a map from its beginning to its end
+abbrev pub OneLogOfGuests : Type 0
+OneLogOfGuests =
+    (n : ℕ) (shared : SharedOf) (new last : List GuestOf) (ended : EndedOf)
+    (made : ℕ → List (Call × Reply)) → HaveCome n shared new → HaveCalled n new last made
+    → HaveEnded last ended → IsOneLogOf n made ended

@@ -1,0 +1,59 @@
+-- What is in a guest, and in a map that guests share, and what their private calls promise.
+use Rattle.std.specs.Arc.{arc_value}
+use Rattle.std.specs.Prelude.{◌≡◌, ◌≢◌, ◌<◌, ◌≤◌, ◌∷◌, [], true, ℕ, Err, Ok, Option, None, Some, Result, vec_capacity}
+use Rattle.nb_core.specs.Calls.{overflows}
+use Rattle.nb_core.specs.Log.{IsReplayed, Numbers, log_of}
+use Rattle.nb_core.specs.declared.calls.Call.{Call}
+use Rattle.nb_core.specs.declared.calls.Reply.{Reply}
+use Rattle.nb_map.specs.declared.faults.PutFault.{PutFault}
+use Rattle.nb_lasting.specs.Guests.{GuestHasCalled, GuestHasReplied, GuestOf, SharedOf}
+use Rattle.nb_lasting.specs.Holding.{IsIdleGuest, IsJustIn}
+use Rattle.nb_lasting.specs.Renewal.{IsIdleToken}
+use Rattle.nb_lasting.specs.declared.guest.Guest.TheInside as guest
+use Rattle.nb_lasting.specs.declared.shared_lasting.SharedLasting.TheInside as shared
+
+-- the guest, as contracts see it
+abbrev pub guest_of : guest.Inside → GuestOf
+guest_of c = record {
+  of = (arc_value c.hall).table.shared.table_id;
+  number = c.lane;
+  log = log_of c.token.me.0.seen;
+}
+
+-- its token is of the table, and has no handle out; and what it knows is replayed
+pub record IsGuest (c : guest.Inside) : Type 0 where
+  pub table : c.token.table_id ≡ (arc_value c.hall).table.shared.table_id
+  pub lane : c.lane < (arc_value c.hall).table.shared.key.seats
+  pub idle : IsIdleGuest c.lane c.token.me
+  pub replayed : IsReplayed (log_of c.token.me.0.seen)
+
+-- the shared map, as contracts see it
+abbrev pub shared_of : shared.Inside → SharedOf
+shared_of c = record {
+  id = (arc_value c.hall).table.shared.table_id;
+  guests = (arc_value c.hall).table.shared.key.seats;
+}
+
+-- its token is of the table, and has no handle out; and there is room for all handles
+pub record IsShared (c : shared.Inside) : Type 0 where
+  pub table : c.token.table_id ≡ (arc_value c.hall).table.shared.table_id
+  pub idle : IsIdleToken c.token.me
+  pub none : c.room.items ≡ []
+  pub room : (arc_value c.hall).table.shared.key.seats ≤ vec_capacity c.room
+
+-- ---- a round of a write
+
+-- it was made, or not yet
+abbrev pub HasMadeOrNone : Call → (before after : GuestOf) → Option Reply → Type 0
+HasMadeOrNone call before after None = GuestHasCalled before after []
+HasMadeOrNone call before after (Some reply) = GuestHasReplied call before after reply
+
+-- it was made on the map that is there, or refused
+abbrev pub HasWrittenHere : Call → (before after : GuestOf) → Result Reply PutFault → Type 0
+HasWrittenHere call before after (Ok reply) = GuestHasReplied call before after reply
+HasWrittenHere call before after (Err fault) =
+    GuestHasCalled before after [] × IsJustIn call after.log fault
+
+-- whatever the map is, the call puts no sum past the range
+abbrev pub NeverOverflows : Call → Type 0
+NeverOverflows call = (content : Numbers) → overflows call content ≢ true

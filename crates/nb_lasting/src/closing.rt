@@ -1,0 +1,94 @@
+//! The end of a map that guests share: all lanes are gathered, and the map is closed.
+ghost use Rattle.std.specs.Prelude.{All, [], length, vec_capacity, ◌*◌, ◌<◌, ◌≤◌, ◌≡◌};
+ghost use Rattle.nb_lasting.specs.Closing.{AreAllOf, HasGathered, HaveGathered};
+ghost use Rattle.nb_lasting.specs.Guests.{HaveEnded};
+ghost use Rattle.nb_lasting.specs.Holding.{IsIdleGuest};
+ghost use Rattle.nb_lasting.specs.Renewal.{HoldsBelow, IsIdleToken};
+ghost use Rattle.nb_lasting.specs.Shared.{FitsLanes};
+
+use crate::gathered::joined;
+use crate::guest::Guest;
+use crate::shared::{Row, Token, become_guest, hold};
+use nb_map::{Ended, Handle};
+use std::sync::Wait;
+
+/// The token becomes a lane's guest, and takes the lane's handle out of its slot.
+fn gather_from<R: Wait>(
+    rt: &R,
+    row: &Row,
+    token: &mut Token,
+    handles: &mut Vec<Handle>,
+    guest: Token,
+    lane: usize,
+)
+    requires table { (token.old.table_id ≡ row.now.table_id)
+        × (guest.table_id ≡ row.now.table_id) }
+    requires lane { lane < row.now.key.seats }
+    requires words { row.now.table_id.words ≡ 8 * row.now.key.seats }
+    requires few { row.now.key.seats ≤ 256 }
+    requires room { length handles.old.items < vec_capacity handles.old }
+    requires guest { IsIdleGuest lane guest.me }
+    requires holds { HoldsBelow lane token.old.me handles.old.items }
+    ensures table { token.new.table_id ≡ token.old.table_id }
+    ensures room { vec_capacity handles.new ≡ vec_capacity handles.old }
+    ensures seated { FitsLanes row.now.table_id.slots token.new.me.0 }
+    ensures gathered { (holds : HoldsBelow lane token.old.me handles.old.items)
+        → HasGathered lane guest.me.0.seen holds.knew token.new.me handles.new.items }
+{
+    become_guest(row, token, guest);
+    hold(rt, row, token, lane);
+    let Some(handle) = row.exchange(token, lane, None) else {
+        unreachable!();
+    };
+    handles.push_reserved(handle);
+}
+
+/// Takes the handles of all guests' lanes.
+fn gather_guests<R: Wait>(
+    rt: &R,
+    row: &Row,
+    token: &mut Token,
+    room: Vec<Handle>,
+    guests: Vec<Guest>,
+) -> Vec<Handle>
+    requires table { token.old.table_id ≡ row.now.table_id }
+    requires words { row.now.table_id.words ≡ 8 * row.now.key.seats }
+    requires few { row.now.key.seats ≤ 256 }
+    requires room { (room.items ≡ []) × (row.now.key.seats ≤ vec_capacity room) }
+    requires idle { IsIdleToken token.old.me }
+    requires all { AreAllOf row.now.table_id row.now.key.seats guests.items }
+    ensures seated { 1 ≤ length guests.items → FitsLanes row.now.table_id.slots token.new.me.0 }
+    ensures gathered { HaveGathered (length guests.items) guests.items token.new.me result.items }
+{
+    let mut handles = room;
+    for guest in guests {
+        let lane = handles.len();
+        gather_from(rt, row, token, &mut handles, guest.into_token(), lane);
+    }
+    handles
+}
+
+/// Takes all lanes, and closes the map.
+pub(crate) fn close_row<R: Wait>(
+    rt: &R,
+    row: &Row,
+    token: &mut Token,
+    room: Vec<Handle>,
+    guests: Vec<Guest>,
+) -> Ended
+    requires table { token.old.table_id ≡ row.now.table_id }
+    requires words { row.now.table_id.words ≡ 8 * row.now.key.seats }
+    requires few { row.now.key.seats ≤ 256 }
+    requires slots { row.now.table_id.slots ≡ row.now.key.seats }
+    requires some { 1 ≤ row.now.key.seats }
+    requires room { (room.items ≡ []) × (row.now.key.seats ≤ vec_capacity room) }
+    requires idle { IsIdleToken token.old.me }
+    requires all { AreAllOf row.now.table_id row.now.key.seats guests.items }
+    ensures { HaveEnded guests.items result }
+{
+    let handles = gather_guests(rt, row, token, room, guests);
+    match joined(handles).close(rt) {
+        Ok(ended) => ended,
+        Err(_) => unreachable!(),
+    }
+}

@@ -1,0 +1,309 @@
+//! A guest of a map without an end.
+ghost use Rattle.std.specs.Prelude.{IfErr, IfOk, [], ◌≡◌};
+ghost use Rattle.nb_core.specs.Calls.{Fills};
+ghost use Rattle.nb_core.specs.Log.{log_of, reply_at};
+ghost use Rattle.nb_core.specs.declared.calls.Call.TheVariants as call;
+ghost use Rattle.nb_map.specs.NamedCalls.{add_of, put_if_absent_of, put_of, remove_if_of, remove_of, replace_if_of, replace_of};
+ghost use Rattle.nb_lasting.specs.Guests.{GuestHasCalled, GuestHasFound, GuestHasMatched, GuestHasReplied, GuestIsRefused};
+ghost use Rattle.nb_lasting.specs.Holding.{IsIdleGuest};
+ghost use Rattle.nb_lasting.specs.Lasting.{as_write_fault};
+ghost use Rattle.nb_lasting.specs.inside.Guests.{HasMadeOrNone, HasWrittenHere, NeverOverflows};
+
+use crate::faults::{GrowFault, WriteFault};
+use crate::hall::Hall;
+use crate::renewing::renew_through;
+use crate::shapes::shape_for;
+use crate::shared::Token;
+use crate::through::{crowded_through, get_through, size_through, write_through};
+use nb_core::{Change, Key, MOST_KEYS, Num, Reply, Want};
+use nb_map::{PutFault, RenewFault};
+use std::alloc::Global;
+use std::marker::Model;
+use std::sync::atomic::Ordering;
+use std::sync::{Arc, Wait};
+
+/// One thread's way to a map without an end. Contracts see it as its number, and the log that it
+/// knows. A guest that makes no call holds up nobody.
+#[derive(Drop)]
+pub struct Guest {
+    pub(crate) hall: Arc<Hall, Global>,
+    pub(crate) token: Token,
+    pub(crate) lane: usize,
+    /// How many more new keys may come before it looks whether the map is crowded.
+    pub(crate) left: u32,
+}
+
+impl Model for Guest {
+    ghost use Rattle.nb_lasting.specs.Guests.{GuestOf};
+
+    ghost Value = { GuestOf };
+
+    ghost use Rattle.nb_lasting.specs.inside.Guests.{IsGuest, guest_of};
+
+    ghost view = { guest_of };
+
+    ghost invariant = { IsGuest };
+}
+
+/// After how many new keys of a guest it looks whether the map is crowded.
+pub(crate) const LOOK_AFTER: u32 = 1024;
+
+impl Guest {
+    /// Its number, from 0 on.
+    pub fn number(&self) -> usize
+        ensures { result ≡ self.now.number }
+    {
+        self.lane
+    }
+
+    /// Its token alone.
+    pub(crate) fn into_token(self) -> Token
+        ensures table { result.table_id ≡ self.of }
+        ensures idle { IsIdleGuest self.number result.me }
+        ensures seen { log_of result.me.0.seen ≡ self.log }
+    {
+        let Guest { token, .. } = self;
+        token
+    }
+
+    /// What the map has at a key.
+    pub fn get<R: Wait>(&mut self, rt: &R, key: Key) -> Option<Num>
+        ensures { GuestHasReplied (call.Get key) self.old self.new (reply_at (call.Get key) result) }
+    {
+        get_through(rt, &self.hall.table.shared, &mut self.token, self.lane, key)
+    }
+
+    /// Changes what the map has at a key, where the condition holds of it, and replies what it had.
+    /// It takes memory only for a new key, and then the time of a whole renewal now and then.
+    pub fn put_if_match<R: Wait>(
+        &mut self,
+        rt: &R,
+        key: Key,
+        want: Want,
+        change: Change,
+    ) -> Result<Reply, WriteFault>
+        ensures wrote { IfOk result (GuestHasReplied (call.Write key want change) self.old self.new) }
+        ensures refused { IfErr result (GuestIsRefused (call.Write key want change) self.old self.new) }
+    {
+        self.renew_in_time(rt);
+        for _ in rt.forever() {
+            if let Some(reply) = self.try_write(rt, key, &want, &change)? {
+                return Ok(reply);
+            }
+        }
+        unreachable!()
+    }
+
+    /// Makes a write, or else the map anew, where that is full; or others come first.
+    fn try_write<R: Wait>(
+        &mut self,
+        rt: &R,
+        key: Key,
+        want: &Want,
+        change: &Change,
+    ) -> Result<Option<Reply>, WriteFault>
+        ensures wrote { IfOk result (HasMadeOrNone (call.Write key want.now change.now) self.old self.new) }
+        ensures refused { IfErr result (GuestIsRefused (call.Write key want.now change.now)
+            self.old self.new) }
+    {
+        let renewals = self.hall.renewals.load(Ordering::SeqCst);
+        match self.write_here(rt, key, want, change) {
+            Ok(reply) => {
+                // Guests may lie side by side: no store where none is needed.
+                if reply.before.is_none() {
+                    self.left = self.left.saturating_sub(1);
+                }
+                Ok(Some(reply))
+            }
+            Err(PutFault::ValueRange) => Err(WriteFault::ValueRange),
+            Err(PutFault::Contended) => Ok(None),
+            Err(PutFault::Full) => {
+                self.renew(rt, renewals)?;
+                Ok(None)
+            }
+        }
+    }
+
+    /// Makes a write on the map that is there.
+    fn write_here<R: Wait>(
+        &mut self,
+        rt: &R,
+        key: Key,
+        want: &Want,
+        change: &Change,
+    ) -> Result<Reply, PutFault>
+        ensures { HasWrittenHere (call.Write key want.now change.now) self.old self.new result }
+    {
+        write_through(
+            rt,
+            &self.hall.table.shared,
+            &mut self.token,
+            self.lane,
+            key,
+            want,
+            change,
+        )
+    }
+
+    /// About how many keys the map has.
+    fn size_estimate<R: Wait>(&mut self, rt: &R) -> usize
+        ensures { GuestHasCalled self.old self.new [] }
+    {
+        let size = size_through(rt, &self.hall.table.shared, &mut self.token, self.lane);
+        // What others count meanwhile may make it less than nothing.
+        if size > MOST_KEYS as u64 {
+            0
+        } else {
+            size as usize
+        }
+    }
+
+    /// Whether more than two thirds of the last table are taken.
+    fn is_crowded<R: Wait>(&mut self, rt: &R) -> bool
+        ensures { GuestHasCalled self.old self.new [] }
+    {
+        crowded_through(rt, &self.hall.table.shared, &mut self.token, self.lane)
+    }
+
+    /// Makes the map anew where it is crowded, and there is memory. It looks now and then.
+    fn renew_in_time<R: Wait>(&mut self, rt: &R)
+        ensures { GuestHasCalled self.old self.new [] }
+    {
+        if self.left > 0 {
+            return;
+        }
+        self.left = LOOK_AFTER;
+        let renewals = self.hall.renewals.load(Ordering::SeqCst);
+        if self.is_crowded(rt) {
+            let _ = self.renew(rt, renewals);
+        }
+    }
+
+    /// Makes the map anew, with room for twice the keys that it has, unless it was made anew since
+    /// there were so many renewals.
+    fn renew<R: Wait>(&mut self, rt: &R, renewals: u64) -> Result<(), GrowFault>
+        ensures { GuestHasCalled self.old self.new [] }
+    {
+        let keys = self.size_estimate(rt).saturating_mul(2);
+        let seats = self.hall.table.slot_count();
+        match renew_through(
+            rt,
+            &self.hall,
+            &mut self.token,
+            shape_for(keys, seats),
+            renewals,
+        ) {
+            Ok(_) => Ok(()),
+            Err(RenewFault::Full) => {
+                if keys >= MOST_KEYS {
+                    Err(GrowFault::Full)
+                } else {
+                    Ok(())
+                }
+            }
+            Err(_) => Err(GrowFault::OutOfMemory),
+        }
+    }
+
+    /// A write that puts no sum.
+    fn set<R: Wait>(
+        &mut self,
+        rt: &R,
+        key: Key,
+        want: Want,
+        change: Change,
+    ) -> Result<Reply, GrowFault>
+        requires no_sum { NeverOverflows (call.Write key want change) }
+        ensures wrote { IfOk result (GuestHasReplied (call.Write key want change) self.old self.new) }
+        ensures refused { IfErr result (λ fault. GuestIsRefused (call.Write key want change)
+            self.old self.new (as_write_fault fault)) }
+    {
+        match self.put_if_match(rt, key, want, change) {
+            Ok(reply) => Ok(reply),
+            Err(WriteFault::Full) => Err(GrowFault::Full),
+            Err(WriteFault::OutOfMemory) => Err(GrowFault::OutOfMemory),
+            Err(WriteFault::ValueRange) => unreachable!(),
+        }
+    }
+
+    /// A write that puts no sum, and no number at an absent key: nothing refuses it.
+    fn change<R: Wait>(&mut self, rt: &R, key: Key, want: Want, change: Change) -> Reply
+        requires no_sum { NeverOverflows (call.Write key want change) }
+        requires fills_none { Fills (call.Write key want change) → ⊥ }
+        ensures { GuestHasReplied (call.Write key want change) self.old self.new result }
+    {
+        match self.set(rt, key, want, change) {
+            Ok(reply) => reply,
+            Err(_) => unreachable!(),
+        }
+    }
+
+    /// Puts a number at a key, and answers what was there.
+    pub fn put<R: Wait>(&mut self, rt: &R, key: Key, number: Num) -> Result<Option<Num>, GrowFault>
+        ensures wrote { IfOk result (GuestHasFound (put_of key number) self.old self.new) }
+        ensures refused { IfErr result (λ fault. GuestIsRefused (put_of key number) self.old self.new
+            (as_write_fault fault)) }
+    {
+        number.known();
+        let reply = self.set(rt, key, Want::Any, Change::Put(number))?;
+        Ok(reply.before)
+    }
+
+    /// Puts a number at a key that has none, and answers what was there.
+    pub fn put_if_absent<R: Wait>(
+        &mut self,
+        rt: &R,
+        key: Key,
+        number: Num,
+    ) -> Result<Option<Num>, GrowFault>
+        ensures wrote { IfOk result (GuestHasFound (put_if_absent_of key number) self.old self.new) }
+        ensures refused { IfErr result (λ fault. GuestIsRefused (put_if_absent_of key number)
+            self.old self.new (as_write_fault fault)) }
+    {
+        number.known();
+        let reply = self.set(rt, key, Want::Absent, Change::Put(number))?;
+        Ok(reply.before)
+    }
+
+    /// Raises the number at a key, an absent one counting as 0, and answers what was there.
+    pub fn add<R: Wait>(&mut self, rt: &R, key: Key, number: Num) -> Result<Option<Num>, WriteFault>
+        ensures wrote { IfOk result (GuestHasFound (add_of key number) self.old self.new) }
+        ensures refused { IfErr result (GuestIsRefused (add_of key number) self.old self.new) }
+    {
+        let reply = self.put_if_match(rt, key, Want::Any, Change::Add(number))?;
+        Ok(reply.before)
+    }
+
+    /// Puts a number at a key that has one, and answers what was there.
+    pub fn replace<R: Wait>(&mut self, rt: &R, key: Key, number: Num) -> Option<Num>
+        ensures { GuestHasFound (replace_of key number) self.old self.new result }
+    {
+        number.known();
+        self.change(rt, key, Want::Present, Change::Put(number))
+            .before
+    }
+
+    /// Puts a number in place of this one, and answers whether it did.
+    pub fn replace_if<R: Wait>(&mut self, rt: &R, key: Key, old: Num, new: Num) -> bool
+        ensures { GuestHasMatched (replace_if_of key old new) self.old self.new result }
+    {
+        new.known();
+        self.change(rt, key, Want::Equal(old), Change::Put(new))
+            .matched
+    }
+
+    /// Takes out a key, and answers what was there.
+    pub fn remove<R: Wait>(&mut self, rt: &R, key: Key) -> Option<Num>
+        ensures { GuestHasFound (remove_of key) self.old self.new result }
+    {
+        self.change(rt, key, Want::Any, Change::Remove).before
+    }
+
+    /// Takes out a key that has this number, and answers whether it did.
+    pub fn remove_if<R: Wait>(&mut self, rt: &R, key: Key, number: Num) -> bool
+        ensures { GuestHasMatched (remove_if_of key number) self.old self.new result }
+    {
+        self.change(rt, key, Want::Equal(number), Change::Remove)
+            .matched
+    }
+}

@@ -1,0 +1,131 @@
+//! A map without an end that guests share, each in a thread of its own.
+ghost use Rattle.std.specs.Arc.{arc_value};
+ghost use Rattle.std.specs.Prelude.{All, IfErr, IfOk, [], is_ok, true, ◌≡◌, ◌≤◌, ◌↔◌};
+ghost use Rattle.nb_core.specs.declared.shapes.TheConstants.{MAX_SEATS};
+ghost use Rattle.nb_lasting.specs.Closing.{AreNew};
+ghost use Rattle.nb_lasting.specs.Guests.{AreAllGuests, HaveCome, HaveEnded};
+ghost use Rattle.nb_lasting.specs.Renewal.{IsIdleToken};
+ghost use Rattle.nb_lasting.specs.Shared.{first_lane_view};
+
+use crate::closing::close_row;
+use crate::guest::{Guest, LOOK_AFTER};
+use crate::hall::Hall;
+use crate::opening::open_row;
+use crate::shapes::shape_for;
+use crate::shared::{Token, another};
+use nb_core::OutOfMemory;
+use nb_map::{Ended, Handle};
+use std::alloc::Global;
+use std::marker::Model;
+use std::sync::atomic::AtomicU64;
+use std::sync::{Arc, Wait};
+
+/// A map without an end, which guests call. It is made anew, by whichever guest finds it full, while
+/// the others call.
+#[derive(Drop)]
+pub struct SharedLasting {
+    pub(crate) hall: Arc<Hall, Global>,
+    pub(crate) token: Token,
+    /// Room for the handles, so that `close` takes no memory.
+    pub(crate) room: Vec<Handle>,
+}
+
+impl Model for SharedLasting {
+    ghost use Rattle.nb_lasting.specs.Guests.{SharedOf};
+
+    ghost Value = { SharedOf };
+
+    ghost use Rattle.nb_lasting.specs.inside.Guests.{IsShared, shared_of};
+
+    ghost view = { shared_of };
+
+    ghost invariant = { IsShared };
+}
+
+/// So many guests, from the first on.
+fn invited(
+    hall: &Arc<Hall, Global>,
+    token: &mut Token,
+    guests: usize,
+) -> Result<Vec<Guest>, OutOfMemory>
+    requires table { token.old.table_id ≡ (arc_value hall.now).table.shared.table_id }
+    requires guests { guests ≡ (arc_value hall.now).table.shared.key.seats }
+    requires first { token.old.me ≡ (first_lane_view (arc_value hall.now).table.shared.key, []) }
+    ensures table { token.new.table_id ≡ token.old.table_id }
+    ensures idle { IfOk result (λ _. IsIdleToken token.new.me) }
+    ensures of { IfOk result (λ made.
+        All (λ guest. guest.of ≡ (arc_value hall.now).table.shared.table_id) made.items) }
+    ensures come { IfOk result (λ made. AreNew guests (arc_value hall.now).table.shared.table_id
+        made.items) }
+{
+    let mut made = Vec::with_capacity(hall.alloc, guests)?;
+    for lane in 0..guests {
+        let own = another(&hall.table.shared, token);
+        made.push_reserved(Guest {
+            hall: Arc::try_clone(hall)?,
+            token: own,
+            lane,
+            left: LOOK_AFTER,
+        });
+    }
+    Ok(made)
+}
+
+impl SharedLasting {
+    /// An empty map, and so many guests. It has room for about so many keys before it is made anew
+    /// for the first time.
+    pub fn open(
+        alloc: Global,
+        guests: usize,
+        keys: usize,
+    ) -> Result<(SharedLasting, Vec<Guest>), OutOfMemory>
+        requires guests { (1 ≤ guests) × (guests ≤ MAX_SEATS) }
+        ensures { IfOk result (λ made. HaveCome guests made.0 made.1.items) }
+    {
+        let room = Vec::with_capacity(alloc, guests)?;
+        let (table, mut token) = open_row(alloc, shape_for(keys, guests))?;
+        let hall = Hall {
+            table,
+            renewals: AtomicU64::new(0),
+            alloc,
+        };
+        let hall = Arc::new(alloc, hall)?;
+        let made = invited(&hall, &mut token, guests)?;
+        Ok((SharedLasting { hall, token, room }, made))
+    }
+
+    /// With all guests, in their order: what is left of the map. It takes no memory. Any others come
+    /// back. Whether they are this map's can't be told when it runs, so it is asked for.
+    pub fn close<R: Wait>(
+        self,
+        rt: &R,
+        guests: Vec<Guest>,
+    ) -> Result<Ended, (SharedLasting, Vec<Guest>)>
+        requires of { All (λ guest. guest.of ≡ self.id) guests.items }
+        ensures all { (is_ok result ≡ true) ↔ AreAllGuests self guests.items }
+        ensures ended { IfOk result (HaveEnded guests.items) }
+        ensures back { IfErr result (λ back. (back.0 ≡ self) × (back.1.items ≡ guests.items)) }
+    {
+        if !self.are_all(guests.as_slice()) {
+            return Err((self, guests));
+        }
+        let SharedLasting { hall, token, room } = self;
+        let mut token = token;
+        Ok(close_row(rt, &hall.table.shared, &mut token, room, guests))
+    }
+
+    /// Whether these are all guests, in their order.
+    fn are_all(&self, guests: &[Guest]) -> bool
+        ensures { (result ≡ true) ↔ AreAllGuests self.now guests.now }
+    {
+        if guests.len() != self.hall.table.slot_count() {
+            return false;
+        }
+        for i in 0..guests.len() {
+            if guests[i].number() != i {
+                return false;
+            }
+        }
+        true
+    }
+}

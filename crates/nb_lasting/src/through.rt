@@ -1,0 +1,110 @@
+//! Calls through a lane, and looks at the map: a guest takes its handle, calls, and gives it back.
+ghost use Rattle.std.specs.Prelude.{[], ◌∷◌, ◌*◌, ◌≡◌, ◌<◌, ◌≤◌};
+ghost use Rattle.nb_core.specs.Log.{reply_at};
+ghost use Rattle.nb_core.specs.declared.calls.Call.TheVariants as call;
+ghost use Rattle.nb_lasting.specs.Holding.{HasCalledIn, HasWrittenIn, IsIdleGuest};
+
+use crate::shared::{Row, Token, give, hold};
+use nb_core::{Change, Key, Num, Reply, Want};
+use nb_map::PutFault;
+use std::sync::Wait;
+
+/// What the map has at a key.
+pub(crate) fn get_through<R: Wait>(
+    rt: &R,
+    row: &Row,
+    token: &mut Token,
+    lane: usize,
+    key: Key,
+) -> Option<Num>
+    requires table { token.old.table_id ≡ row.now.table_id }
+    requires lane { lane < row.now.key.seats }
+    requires words { row.now.table_id.words ≡ 8 * row.now.key.seats }
+    requires few { row.now.key.seats ≤ 256 }
+    requires slots { row.now.table_id.slots ≡ row.now.key.seats }
+    requires idle { IsIdleGuest lane token.old.me }
+    ensures table { token.new.table_id ≡ token.old.table_id }
+    ensures idle { IsIdleGuest lane token.new.me }
+    ensures called { HasCalledIn lane token.old.me.0 token.new.me.0
+        ((call.Get key, reply_at (call.Get key) result) ∷ []) }
+{
+    hold(rt, row, token, lane);
+    let Some(handle) = token.slot_mut(row, lane) else {
+        unreachable!();
+    };
+    let found = handle.get(key);
+    give(row, token, lane);
+    found
+}
+
+/// Changes what the map has at a key, where the condition holds of it, and replies what it had.
+pub(crate) fn write_through<R: Wait>(
+    rt: &R,
+    row: &Row,
+    token: &mut Token,
+    lane: usize,
+    key: Key,
+    want: &Want,
+    change: &Change,
+) -> Result<Reply, PutFault>
+    requires table { token.old.table_id ≡ row.now.table_id }
+    requires lane { lane < row.now.key.seats }
+    requires words { row.now.table_id.words ≡ 8 * row.now.key.seats }
+    requires few { row.now.key.seats ≤ 256 }
+    requires slots { row.now.table_id.slots ≡ row.now.key.seats }
+    requires idle { IsIdleGuest lane token.old.me }
+    ensures table { token.new.table_id ≡ token.old.table_id }
+    ensures idle { IsIdleGuest lane token.new.me }
+    ensures called { HasWrittenIn lane token.old.me.0 token.new.me.0
+        (call.Write key want.now change.now) result }
+{
+    hold(rt, row, token, lane);
+    let Some(handle) = token.slot_mut(row, lane) else {
+        unreachable!();
+    };
+    let reply = handle.put_if_match(key, *want, *change, u32::MAX);
+    give(row, token, lane);
+    reply
+}
+
+/// About how many keys the map has.
+pub(crate) fn size_through<R: Wait>(rt: &R, row: &Row, token: &mut Token, lane: usize) -> u64
+    requires table { token.old.table_id ≡ row.now.table_id }
+    requires lane { lane < row.now.key.seats }
+    requires words { row.now.table_id.words ≡ 8 * row.now.key.seats }
+    requires few { row.now.key.seats ≤ 256 }
+    requires slots { row.now.table_id.slots ≡ row.now.key.seats }
+    requires idle { IsIdleGuest lane token.old.me }
+    ensures table { token.new.table_id ≡ token.old.table_id }
+    ensures idle { IsIdleGuest lane token.new.me }
+    ensures called { HasCalledIn lane token.old.me.0 token.new.me.0 [] }
+{
+    hold(rt, row, token, lane);
+    let Some(handle) = token.slot_mut(row, lane) else {
+        unreachable!();
+    };
+    let size = handle.size_estimate();
+    give(row, token, lane);
+    size
+}
+
+/// Whether more than two thirds of the last table are taken.
+pub(crate) fn crowded_through<R: Wait>(rt: &R, row: &Row, token: &mut Token, lane: usize) -> bool
+    requires table { token.old.table_id ≡ row.now.table_id }
+    requires lane { lane < row.now.key.seats }
+    requires words { row.now.table_id.words ≡ 8 * row.now.key.seats }
+    requires few { row.now.key.seats ≤ 256 }
+    requires slots { row.now.table_id.slots ≡ row.now.key.seats }
+    requires idle { IsIdleGuest lane token.old.me }
+    ensures table { token.new.table_id ≡ token.old.table_id }
+    ensures idle { IsIdleGuest lane token.new.me }
+    ensures called { HasCalledIn lane token.old.me.0 token.new.me.0 [] }
+{
+    hold(rt, row, token, lane);
+    let Some(handle) = token.slot_mut(row, lane) else {
+        unreachable!();
+    };
+    let crowded = handle.occupancy().should_renew();
+    give(row, token, lane);
+    crowded
+}
