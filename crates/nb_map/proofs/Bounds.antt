@@ -104,19 +104,22 @@ pub climbed-most :
     (p : Plan) (g : ℕ) → g < generations_of p → rung_steps p g + rungs_below p g ≤ climb_steps p
 climbed-most p g table = rungs-most p (generations_of p) (suc g) table
 
--- so there is room for what comes before, which is a few steps and the end of a copy
+-- so there is room for what comes before, which is a few steps, glances along a path and the end of
+-- a copy
 pub climb-bound :
     (p : Plan) → IsPlan p → (g : ℕ) → g < generations_of p
-    → 8 + pass_steps p g + climb_steps p ≤ get_steps p
+    → 8 + 2 * size_of p g + pass_steps p g + climb_steps p ≤ get_steps p
 climb-bound p plan g table =
     let tables = generations_of p in
     fits (climb_steps p) (steps_below p tables) (slots_below p tables) (completed_below p tables)
-    tables (size_of p (tables - 1)) (size_of p (suc g)) (rungs-few p plan tables (le_refl tables))
-    (completed-few p plan tables (le_refl tables)) (next-size p plan g table) plan.tables.0
+    tables (size_of p (tables - 1)) (size_of p g) (size_of p (suc g))
+    (rungs-few p plan tables (le_refl tables)) (completed-few p plan tables (le_refl tables))
+    (size-most p plan (tables - 1 - g) g (omega (arith, table))) (next-size p plan g table)
+    plan.tables.0
   where
-    fits : (climbed under t done tables n above : ℕ)
+    fits : (climbed under t done tables n here above : ℕ)
         → climbed + under ≤ 3 * t + 2 * done + tables * (2 * n + 15)
-        → done ≤ t * (4 * n + 15) + tables → above ≤ n → 1 ≤ tables
-        → 8 + (2 * above + 6 + 2) + climbed ≤ 8 * (t + tables) * (n + 8)
-    fits climbed under t done tables n above a b c d =
-        omega (arith, a, b, c, mul-le-mul_right (6 * n + 47) d)
+        → done ≤ t * (4 * n + 15) + tables → here ≤ n → above ≤ n → 1 ≤ tables
+        → 8 + 2 * here + (2 * above + 6 + 2) + climbed ≤ 8 * (t + tables) * (n + 8)
+    fits climbed under t done tables n here above a b c d e =
+        omega (arith, a, b, c, d, mul-le-mul_right (6 * n + 47) e)

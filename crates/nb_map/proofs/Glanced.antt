@@ -76,8 +76,8 @@ turned false b is = ap not is
 
 -- what a glance shows is right, where the slot is the key's, or shows that there is no number
 pub glance-either :
-    (p : Plan) (t : Tables) (g k : ℕ) (own : Bool) (shown : Glance)
-    → (IsTrue own → IsGlance p t g k shown) → (own ≡ false → shown ≡ glance.Shows None)
-    → IsGlance p t g k shown
-glance-either p t g k true shown mine empty = mine refl
-glance-either p t g k false shown mine empty = subst (IsGlance p t g k) (sym (empty refl)) tt
+    (p : Plan) (t : Tables) (g k at : ℕ) (own : Bool) (shown : Glance)
+    → (IsTrue own → IsGlance p t g k at shown) → (own ≡ false → shown ≡ glance.Shows None)
+    → IsGlance p t g k at shown
+glance-either p t g k at true shown mine empty = mine refl
+glance-either p t g k at false shown mine empty = subst (IsGlance p t g k at) (sym (empty refl)) tt

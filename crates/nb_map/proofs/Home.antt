@@ -1,5 +1,5 @@
 -- What is so where a key is at home in a table.
-use Rattle.std.proofs.Common.{◌≡◌, ◌≢◌, ◌∙◌, ℕ, ◌+◌, ◌<◌, ap, subst, sym, inl, inr, refl}
+use Rattle.std.proofs.Common.{◌≡◌, ◌≢◌, ◌∙◌, ℕ, zero, suc, ◌+◌, ◌<◌, ap, subst, sym, inl, inr, refl, arith}
 use Rattle.std.proofs.lemmas.Nat.{mod_below, pow_pos}
 use Rattle.nb_core.specs.Laws.{Lasts}
 use Rattle.nb_core.specs.Plans.{Plan, generations_of, size_of}
@@ -55,6 +55,33 @@ primed-away p t g k claimed primed home = elim home [
   | inl empty ↦ (let both : Empty ≡ Claimed k = sym empty ∙ claimed in cc)
   | inr own ↦ primed own.1
 ]
+
+-- a key isn't at home whose slot lies further on its path, or isn't open at home
+pub behind-away :
+    (p : Plan) (t : Tables) (g k d : ℕ) → AreOthers p t g k d → (d ≡ 0 → IsAtHome p t g k → ⊥)
+    → IsAtHome p t g k → ⊥
+behind-away p t g k zero others first home = first refl home
+behind-away p t g k (suc d) others first home =
+    others-away p t g k (suc d) (omega arith) others home
+
+-- a closed slot on its path, behind slots of other keys
+pub closed-away :
+    (p : Plan) (t : Tables) (g k d : ℕ) → AreOthers p t g k d
+    → t.key g (path_slot p g k d) ≡ Dead → IsAtHome p t g k → ⊥
+closed-away p t g k d others dead =
+    behind-away p t g k d others
+    (λ none. dead-away p t g k (subst (λ d. t.key g (path_slot p g k d) ≡ Dead) none dead))
+
+-- and so its own slot there whose value is primed
+pub copied-away :
+    (p : Plan) (t : Tables) (g k d i : ℕ) → AreOthers p t g k d → path_slot p g k d ≡ i
+    → t.key g i ≡ Claimed k → (IsUnprimed (t.value g i) → ⊥) → IsAtHome p t g k → ⊥
+copied-away p t g k d i others is claimed primed =
+    behind-away p t g k d others
+    (λ none.
+    let at : path_slot p g k 0 ≡ i = ap (path_slot p g k) (sym none) ∙ is in
+    primed-away p t g k (subst (λ i. t.key g i ≡ Claimed k) (sym at) claimed)
+    (subst (λ i. IsUnprimed (t.value g i) → ⊥) (sym at) primed))
 
 -- ---- what was so before
 

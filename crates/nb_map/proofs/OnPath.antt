@@ -90,3 +90,7 @@ module _ (chain : ChainOf) {call : Call} {rung : Rung} {seat : SeenBy} {slot : S
         at = refl;
         passed = at.others;
       })
+
+-- a path is one of its own table
+pub path-own : {p : Plan} {g k : ℕ} {path : Path} → IsPathIn p g k path → IsPathIn p path.g k path
+path-own {p} {k = k} {path = path} is = subst (λ g. IsPathIn p g k path) (sym is.table) is

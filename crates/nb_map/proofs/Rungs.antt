@@ -1,11 +1,12 @@
 -- Where a call has come to on its way up the tables.
-use Rattle.std.proofs.Common.{◌≡◌, ℕ, suc, ◌+◌, ◌<◌, List, add-one, inl, sym, subst, arith}
+use Rattle.std.proofs.Common.{◌≡◌, ℕ, suc, ◌+◌, ◌<◌, List, true, false, add-one, inl, inr, sym, subst, arith}
 use Rattle.std.proofs.lemmas.Nat.{pow_pos}
 use Rattle.nb_core.specs.History.{key_of_call}
 use Rattle.nb_core.specs.Laws.{Lasts}
-use Rattle.nb_core.specs.Plans.{Plan, generations_of, value_place}
-use Rattle.nb_core.specs.Tables.{Tables}
+use Rattle.nb_core.specs.Plans.{Plan, generations_of, size_of, value_place}
+use Rattle.nb_core.specs.Tables.{AreOthers, Tables}
 use Rattle.nb_core.specs.declared.calls.Call.{Call}
+use Rattle.nb_core.specs.declared.calls.Call.TheVariants as call
 use Rattle.nb_core.specs.declared.calls.Reply.{Reply}
 use Rattle.nb_core.specs.declared.slot_paths.Slot.{Slot}
 use Rattle.nb_table.specs.Chains.{ChainOf, IsOwn, SeenBy, seen_by}
@@ -14,7 +15,7 @@ use Rattle.nb_map.specs.Calling.{HasMade}
 use Rattle.nb_map.specs.declared.steps.rung.Below.{Below}
 use Rattle.nb_map.specs.declared.steps.rung.Below.TheVariants.{Complete, HasKey, Passed}
 use Rattle.nb_map.specs.declared.steps.rung.Rung.{Rung}
-use Rattle.nb_map.specs.inside.Climbing.{GoesAbove, HasBelow, IsAbove, IsAt, IsAtSlot, IsSlotOf}
+use Rattle.nb_map.specs.inside.Climbing.{GoesAbove, HasBelow, IsAbove, IsAt, IsAtSlot, IsSlotOf, rung_for_read}
 use Rattle.nb_map.proofs.Made.{made-own, made-stays, slot-below-lasts}
 use Rattle.nb_map.proofs.Searched.{others-none, reached-above, reached-lasts, table-within}
 
@@ -108,6 +109,34 @@ module _ (chain : ChainOf) where
     others = others-none p (seen_by p seat) g (key_of_call call);
     known = tt;
   }
+
+  -- a read hasn't come to its path's end
+  pub read-near :
+      {key g d : ℕ} {seat : SeenBy} → IsAt chain (call.Get key) seat (rung_for_read g d)
+      → d < size_of p g
+  read-near at = elim at.start [
+    | inl near ↦ near
+    | inr fills ↦ absurd (let e : true ≡ false = fills in cc)
+  ]
+
+  -- and it may go on there behind more slots of other keys
+  pub read-further :
+      {key g from d most : ℕ} {other : Call} {before after : SeenBy} {made : List (Call × Reply)}
+      → IsAt chain (call.Get key) before (rung_for_read g from)
+      → HasMade p other before after made most
+      → d < size_of p g → AreOthers p (seen_by p after) g key d
+      → IsAt chain (call.Get key) after (rung_for_read g d)
+  read-further at steps near others =
+      let here = at-stays at steps in
+      record {
+        own = here.own;
+        table = here.table;
+        reached = here.reached;
+        within = omega (arith, near);
+        start = inl near;
+        others = others;
+        known = tt;
+      }
 
   -- from its key's slot to the next table, if it may go on there
   pub slot-above :

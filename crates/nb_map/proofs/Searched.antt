@@ -289,6 +289,11 @@ three-slots p plan g table =
 pub two-slots : (p : Plan) → IsPlan p → (g : ℕ) → g < generations_of p → 1 < size_of p g
 two-slots p plan g table = omega (arith, three-slots p plan g table)
 
+-- and no more than a table may have
+pub slots-few : (p : Plan) → IsPlan p → (g : ℕ) → g < generations_of p → size_of p g ≤ 2 ^ 28
+slots-few p plan g table =
+    pow_mono (All-get_or (λ e. (2 ≤ e) × (e ≤ 28)) p.exponents g 0 table plan.sizes).1
+
 -- the slot lies on the key's path, behind slots of other keys
 pub on-path :
     (p : Plan) (t : Tables) (g k i d key : ℕ) → k ≡ key → d < size_of p g → path_slot p g key d ≡ i

@@ -1,6 +1,6 @@
--- What a probe of a key's path comes to in a table, and what a glance at the home slot shows of the
--- key.
-use Rattle.std.specs.Prelude.{ℕ, List, [], Option, if◌then◌else◌, suc, ◌≡◌, ◌<◌, ◌==◌, None}
+-- What a probe of a key's path comes to in a table, and what a glance at a slot of the path shows of
+-- the key.
+use Rattle.std.specs.Prelude.{ℕ, List, [], Option, if◌then◌else◌, suc, ◌≡◌, ◌≤◌, ◌<◌, ◌==◌, None}
 use Rattle.nb_core.specs.Calls.{leaves_alone}
 use Rattle.nb_core.specs.Plans.{Plan, size_of, generations_of}
 use Rattle.nb_core.specs.Tables.{IsInstalled, Tables, AreOthers, path_slot}
@@ -43,13 +43,14 @@ read_at p g call (ends.Empty d) = read_of call None
 read_at p g call ends.Closed = []
 read_at p g call ends.Whole = if suc g == generations_of p then read_of call None else []
 
--- ---- a glance at the home slot
+-- ---- a glance at a slot of the key's path
 
--- where a glance shows nothing, the key isn't at home, and the search goes on from a slot of its
--- path, behind slots of other keys
-abbrev pub IsGlance : Plan → Tables → (g k : ℕ) → Glance → Type 0
-IsGlance p t g k (glance.Shows number) = Unit {0}
-IsGlance p t g k (glance.From d) = (d < size_of p g) × AreOthers p t g k d × (IsAtHome p t g k → ⊥)
+-- where a glance at this distance shows nothing, the key isn't at home, and the search goes on from
+-- there or from a later slot, behind slots of other keys
+abbrev pub IsGlance : Plan → Tables → (g k at : ℕ) → Glance → Type 0
+IsGlance p t g k at (glance.Shows number) = Unit {0}
+IsGlance p t g k at (glance.From d) =
+    (at ≤ d) × (d < size_of p g) × AreOthers p t g k d × (IsAtHome p t g k → ⊥)
 
 -- the read that the glance was, for a call that leaves alone what it shows
 abbrev pub glanced_by : Call → Glance → List (Call × Reply)

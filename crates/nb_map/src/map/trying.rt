@@ -77,7 +77,7 @@ impl Map {
 
     /// Puts a number at a key, and answers what was there: `put` without a wait. It costs what
     /// `put_if_match` costs.
-    #[inline]
+    #[inline(always)]
     pub fn try_put(
         &self,
         seat: &mut Seat,
@@ -110,7 +110,7 @@ impl Map {
 
     /// Puts a number at a key that has none, and answers what was there: `put_if_absent` without a
     /// wait. It costs what `put_if_match` costs.
-    #[inline]
+    #[inline(always)]
     pub fn try_put_if_absent(
         &self,
         seat: &mut Seat,
@@ -145,7 +145,7 @@ impl Map {
 
     /// Raises the number at a key, an absent one counting as 0, and answers what was there: `add`
     /// without a wait. It costs what `put_if_match` costs.
-    #[inline]
+    #[inline(always)]
     pub fn try_add(
         &self,
         seat: &mut Seat,
@@ -179,7 +179,7 @@ impl Map {
 
     /// Takes out a key, and answers what was there: `remove` without a wait. It is refused only as
     /// contended. It costs what `put_if_match` costs.
-    #[inline]
+    #[inline(always)]
     pub fn try_remove(&self, seat: &mut Seat, key: Key, tries: u32) -> Result<Option<Num>, PutFault>
         requires own { IsMine self.now seat.old }
         requires some { 1 ≤ tries }

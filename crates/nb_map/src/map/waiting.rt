@@ -32,6 +32,7 @@ impl Map {
     /// have won none and the key is at home in the table that the seat remembers, these are at most
     /// three steps, or five where the seat didn't know the key's slot before, as of a new key, and
     /// knows of no table above (`IsShortAtHome`).
+    #[inline(always)]
     pub fn put<R: Wait>(
         &self,
         rt: &R,
@@ -62,6 +63,7 @@ impl Map {
 
     /// Puts a number at a key that has none, and answers what was there.
     /// `ConcurrentMap.putIfAbsent`. Lock-free, with the bound of `put`.
+    #[inline(always)]
     pub fn put_if_absent<R: Wait>(
         &self,
         rt: &R,
@@ -204,6 +206,7 @@ impl Map {
 
     /// Raises the number at a key, an absent one counting as 0, and answers what was there.
     /// Lock-free, with the bound of `put`.
+    #[inline(always)]
     pub fn add<R: Wait>(
         &self,
         rt: &R,

@@ -1,11 +1,10 @@
 //! Reading a key.
-ghost use Rattle.std.specs.Prelude.{IsTrue, None, Some, [], false, if◌then◌else◌, length, ℕ, ◌+◌, ◌≡◌, ◌≤◌};
-ghost use Rattle.nb_core.specs.Paths.{IsPlaced};
-ghost use Rattle.nb_core.specs.Tables.{path_slot};
+ghost use Rattle.std.specs.Prelude.{IsTrue, None, Some, [], false, if◌then◌else◌, length, ℕ, ◌*◌, ◌+◌, ◌<◌, ◌≡◌, ◌≤◌};
+ghost use Rattle.nb_core.specs.Paths.{IsOnPathAt, IsPathIn};
+ghost use Rattle.nb_core.specs.Plans.{size_of};
 ghost use Rattle.nb_core.specs.declared.calls.Call.TheVariants as call;
 ghost use Rattle.nb_core.specs.declared.states.KeyState.TheVariants as key_is;
 ghost use Rattle.nb_table.specs.Chains.{Grown, IsOwn, seen_by};
-ghost use Rattle.nb_table.specs.Conditions.{IsReached};
 ghost use Rattle.nb_map.specs.Logs.{as_replied};
 ghost use Rattle.nb_map.specs.Calling.{HasMade};
 ghost use Rattle.nb_map.specs.Progress.{IsAtHome, IsSeenAtHome, IsShortRead};
@@ -18,10 +17,10 @@ use crate::steps::climb::climb;
 use crate::steps::pause::NoPause;
 use crate::steps::rung::{Below, Rung, Visit};
 use crate::steps::slot::call_at;
-use nb_core::{Call, Key, KeyState, KeyWord, Num, Slot};
+use nb_core::{Call, Key, KeyState, KeyWord, Num, Path, Slot};
 use nb_table::{Chain, ChainSeat};
 
-/// What a glance at a key's home slot shows of it.
+/// What a glance at a slot of a key's path shows of it.
 #[derive(Clone, Copy)]
 pub(crate) enum Glance {
     /// The map has this number at the key, or none.
@@ -49,20 +48,38 @@ pub fn get_in(chain: &Chain, seat: &mut ChainSeat, key: Key) -> Option<Num>
 }
 
 /// The same, where a glance at the table that the seat remembered showed nothing. The seat loads
-/// the top word, and remembers it. If the top has risen, it begins anew there, with a glance.
+/// the top word, and remembers it. If the top hasn't risen, glances along the key's path show in the
+/// common case what the map has. If it has, the read begins anew there.
 #[inline(never)]
 fn get_on(chain: &Chain, seat: &mut ChainSeat, key: Key, known: u32, from: usize) -> Option<Num>
     requires at { IsAt chain.now (call.Get key) seat.old (rung_for_read known from) }
     requires away { IsAtHome chain.now.shape (seen_by chain.now.shape seat.old) known key → ⊥ }
     ensures made { HasMade chain.now.shape (call.Get key) seat.old seat.new
-        (as_replied (call.Get key) result) (3 + climb_steps chain.now.shape) }
+        (as_replied (call.Get key) result)
+        (3 + 2 * size_of chain.now.shape known + climb_steps chain.now.shape) }
     ensures three_steps { IsSeenAtHome chain.now.shape seat.old seat.new key
         → seat.new.steps ≤ seat.old.steps + 3 }
 {
     let top = chain.load_top(seat);
-    if top == known {
-        return get_from(chain, seat, key, known, from);
+    if top != known {
+        return get_risen(chain, seat, key, top);
     }
+    match glance_along(chain, seat, known, key, from) {
+        Glance::Shows(number) => number,
+        Glance::From(from) => get_from(chain, seat, key, known, from),
+    }
+}
+
+/// The same from table `top` on, which the seat has just seen to be the top one.
+#[cold]
+#[inline(never)]
+fn get_risen(chain: &Chain, seat: &mut ChainSeat, key: Key, top: u32) -> Option<Num>
+    requires at { IsAt chain.now (call.Get key) seat.old (rung_for_read top 0) }
+    ensures made { HasMade chain.now.shape (call.Get key) seat.old seat.new
+        (as_replied (call.Get key) result) (2 + climb_steps chain.now.shape) }
+    ensures two_steps { IsAtHome chain.now.shape (seen_by chain.now.shape seat.new) top key
+        → seat.new.steps ≤ seat.old.steps + 2 }
+{
     match glance_in(chain, seat, top, key) {
         Glance::Shows(number) => number,
         Glance::From(from) => get_from(chain, seat, key, top, from),
@@ -78,14 +95,14 @@ fn glance_in(chain: &Chain, seat: &mut ChainSeat, g: u32, key: Key) -> Glance
     requires at { IsAt chain.now (call.Get key) seat.old (rung_for_read g 0) }
     ensures made { HasMade chain.now.shape (call.Get key) seat.old seat.new
         (glanced_by (call.Get key) result) 2 }
-    ensures glance { IsGlance chain.now.shape (seen_by chain.now.shape seat.new) g key result }
+    ensures glance { IsGlance chain.now.shape (seen_by chain.now.shape seat.new) g key 0 result }
 {
     let home = chain.shape().path(g, key).slot(0);
     let word = chain.load_key_word_at(seat, home, Some(Call::Get { key }));
     if !word.is_or_empty(key) {
         return away(word);
     }
-    glance_at(chain, seat, key, home, !word.is_empty())
+    glance_at(chain, seat, key, home, 0, !word.is_empty())
 }
 
 /// From where the search goes on, where a home slot has this key word of another key, or is closed
@@ -101,6 +118,55 @@ fn away(word: KeyWord) -> Glance
     }
 }
 
+/// What the key's path in table `g` shows of it, slot by slot from a distance on. The path's last
+/// slot is left to the general way: in the last table another key there is an answer.
+#[inline(always)]
+fn glance_along(chain: &Chain, seat: &mut ChainSeat, g: u32, key: Key, from: usize) -> Glance
+    requires at { IsAt chain.now (call.Get key) seat.old (rung_for_read g from) }
+    ensures made { HasMade chain.now.shape (call.Get key) seat.old seat.new
+        (glanced_by (call.Get key) result) (2 * size_of chain.now.shape g) }
+    ensures glance { IsGlance chain.now.shape (seen_by chain.now.shape seat.new) g key from result }
+{
+    let path = chain.shape().path(g, key);
+    let last = path.slots() - 1;
+    for distance in from..last {
+        match glance_on(chain, seat, key, path, distance) {
+            Glance::Shows(number) => return Glance::Shows(number),
+            Glance::From(next) => {
+                if next == distance {
+                    return Glance::From(distance);
+                }
+            }
+        }
+    }
+    Glance::From(last)
+}
+
+/// What the slot at a distance on the key's path shows of it, behind slots of other keys. Here it
+/// is mostly another key's, and branches tell what it is.
+#[inline(always)]
+#[tactic(auto, using(nb_core::proofs::Theorems::linked))]
+fn glance_on(chain: &Chain, seat: &mut ChainSeat, key: Key, path: Path, distance: usize) -> Glance
+    requires path { IsPathIn chain.now.shape path.g key path }
+    requires at { IsAt chain.now (call.Get key) seat.old (rung_for_read path.g distance) }
+    requires near { distance + 1 < size_of chain.now.shape path.g }
+    ensures made { HasMade chain.now.shape (call.Get key) seat.old seat.new
+        (glanced_by (call.Get key) result) 2 }
+    ensures glance { IsGlance chain.now.shape (seen_by chain.now.shape seat.new) path.g key distance
+        result }
+{
+    let at = path.slot(distance);
+    let word = chain.load_key_word_at(seat, at, Some(Call::Get { key }));
+    if word.is(key) {
+        return glance_at(chain, seat, key, at, distance, true);
+    }
+    match word.state() {
+        KeyState::Claimed(_) => Glance::From(distance + 1),
+        KeyState::Empty => Glance::Shows(None),
+        KeyState::Dead => Glance::From(distance),
+    }
+}
+
 /// The read of a key, where a load is to decide it.
 #[inline]
 fn read_if(deciding: bool, key: Key) -> Option<Call>
@@ -113,26 +179,31 @@ fn read_if(deciding: bool, key: Key) -> Option<Call>
     }
 }
 
-/// What the value in a slot shows of the key, whose home slot it is: of a slot that was seen empty
-/// nothing, and the map doesn't have the key.
+/// What the value in a slot shows of the key, on whose path it is at a distance: of a slot that was
+/// seen empty nothing, and the map doesn't have the key.
 #[inline]
-fn glance_at(chain: &Chain, seat: &mut ChainSeat, key: Key, home: Slot, is_own: bool) -> Glance
-    requires own { IsOwn chain.now seat.old }
-    requires slot { IsPlaced chain.now.shape home }
-    requires home { path_slot chain.now.shape home.g key 0 ≡ home.i }
-    requires claimed { IsTrue is_own → (seen_by chain.now.shape seat.old).key home.g home.i
+fn glance_at(
+    chain: &Chain,
+    seat: &mut ChainSeat,
+    key: Key,
+    slot: Slot,
+    distance: usize,
+    is_own: bool,
+) -> Glance
+    requires at { IsAt chain.now (call.Get key) seat.old (rung_for_read slot.g distance) }
+    requires slot { IsOnPathAt chain.now.shape slot.g key distance slot }
+    requires claimed { IsTrue is_own → (seen_by chain.now.shape seat.old).key slot.g slot.i
         ≡ key_is.Claimed key }
-    requires reached { IsReached chain.now.shape (seen_by chain.now.shape seat.old) home.g key }
     ensures made { HasMade chain.now.shape (call.Get key) seat.old seat.new
         (if is_own then glanced_by (call.Get key) result else []) 1 }
     ensures glance { IsTrue is_own → IsGlance chain.now.shape (seen_by chain.now.shape seat.new)
-        home.g key result }
+        slot.g key distance result }
     ensures empty { is_own ≡ false → result ≡ glance_is.Shows None }
 {
-    let word = chain.load_value_word_at(seat, home, read_if(is_own, key));
+    let word = chain.load_value_word_at(seat, slot, read_if(is_own, key));
     let Some(number) = word.shows() else {
         return if is_own {
-            Glance::From(0)
+            Glance::From(distance)
         } else {
             Glance::Shows(None)
         };

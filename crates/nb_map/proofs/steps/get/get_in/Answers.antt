@@ -1,4 +1,4 @@
-use Rattle.std.proofs.Common.{inl, subst, sym, arith}
+use Rattle.std.proofs.Common.{subst, sym, arith}
 use Rattle.nb_core.specs.declared.calls.Call.TheVariants as call
 use Rattle.nb_table.specs.Chains.{seen_by}
 use Rattle.nb_map.specs.Progress.{IsAtHome}
@@ -6,7 +6,7 @@ use Rattle.nb_map.specs.Steps.{get_steps}
 use Rattle.nb_map.proofs.Bounds.{climb-bound}
 use Rattle.nb_map.proofs.Home.{home-before}
 use Rattle.nb_map.proofs.Made.{made-more, made-own, made-stays, made-within}
-use Rattle.nb_map.proofs.Rungs.{at-path, at-stays}
+use Rattle.nb_map.proofs.Rungs.{at-path, read-further}
 use Rattle.nb_map.proofs.Straight.{at-known}
 use Rattle.nb_map.proofs.steps.get.get_in.Goals as goal
 
@@ -34,21 +34,13 @@ returns-in-Shows c =
 pub get_on-requires : goal.get_on-requires
 get_on-requires c =
     let chain = c.args.chain.now in
-    let glance = c.in-From.ensures in
-    let here = at-stays chain
-    (at-known chain c.known_top-known.result c.requires.own c.known_top-known.ensures
-    (call.Get c.args.key)) glance.made in
+    let glance = c.in-From.ensures.glance in
+    let get = call.Get c.args.key in
+    let at = at-known chain c.known_top-known.result c.requires.own c.known_top-known.ensures get in
     record {
-      at = record {
-        own = here.own;
-        table = here.table;
-        reached = here.reached;
-        within = omega (arith, glance.glance.0);
-        start = inl glance.glance.0;
-        others = glance.glance.1;
-        known = tt;
-      };
-      away = glance.glance.2;
+      at = read-further chain (at-path chain get _ _ at.own at.reached) c.in-From.ensures.made
+          glance.1 glance.2;
+      away = glance.3;
     }
 
 pub returns-in-From : goal.returns-in-From
@@ -67,7 +59,7 @@ returns-in-From c =
       short = record {
         two_steps = λ home.
             absurd
-            (c.in-From.ensures.glance.2 (home-before p _ _ second known c.args.key at.table
+            (c.in-From.ensures.glance.3 (home-before p _ _ second known c.args.key at.table
             (subst (λ g. IsAtHome p (seen_by p c.get_on.new.seat) g c.args.key)
             (sym c.known_top-known.ensures) home)));
         five_steps = λ home.

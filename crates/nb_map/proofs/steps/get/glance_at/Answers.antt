@@ -1,13 +1,12 @@
-use Rattle.std.proofs.Common.{◌≡◌, ◌∙◌, None, Some, ap, cond, subst, sym}
-use Rattle.std.proofs.lemmas.Nat.{pow_pos}
+use Rattle.std.proofs.Common.{◌∙◌, None, Some, ap, cond, subst, sym, arith}
 use Rattle.nb_core.specs.Tables.{IsUnprimed}
 use Rattle.nb_core.specs.declared.calls.Call.TheVariants as call
-use Rattle.nb_core.specs.declared.states.KeyState.TheVariants.{Claimed}
 use Rattle.nb_table.specs.Chains.{seen_by}
 use Rattle.nb_map.proofs.Glanced.{made-glance, made-primed, made-untold}
 use Rattle.nb_map.proofs.Tried.{none-of, shown-none}
-use Rattle.nb_map.proofs.Home.{primed-away}
-use Rattle.nb_map.proofs.Searched.{others-none}
+use Rattle.nb_map.proofs.Home.{copied-away}
+use Rattle.nb_map.proofs.OnPath.{slot-is}
+use Rattle.nb_map.proofs.Rungs.{read-near}
 use Rattle.nb_map.proofs.steps.get.glance_at.Goals as goal
 use Rattle.nb_table.proofs.Theorems.{steps_add_up}
 
@@ -22,20 +21,23 @@ returns-then-is_own-clause-made c =
 
 pub returns-then-is_own-clause-glance : goal.returns-then-is_own-clause-glance
 returns-then-is_own-clause-glance c own =
-    let p = c.args.chain.now.shape in
-    let seen = seen_by c.args.chain.now.shape c.load_value_word_at-word.new.seat in
-    let lasting = steps_add_up.stays c.requires.own
+    let chain = c.args.chain.now in
+    let p = chain.shape in
+    let slot = c.args.slot in
+    let k = c.args.key in
+    let d = c.args.distance in
+    let seen = seen_by p c.load_value_word_at-word.new.seat in
+    let lasting = steps_add_up.stays c.requires.at.own
     (steps_add_up.one c.load_value_word_at-word.ensures.grows) in
-    let claimed = lasting.claimed c.args.home.g c.args.home.i c.args.key c.requires.slot.slot
-    (c.requires.claimed own) in
     let primed = shown-none c.load_value_word_at-word.result
-    (sym c.shows.ensures ∙ none-of c.shows.result c.in_default.not-Some) in (
-      pow_pos _,
-      others-none p seen c.args.home.g c.args.key,
-      primed-away p seen c.args.home.g c.args.key
-          (subst (λ i. seen.key c.args.home.g i ≡ Claimed c.args.key) (sym c.requires.home) claimed)
-          (subst (λ i. IsUnprimed (seen.value c.args.home.g i) → ⊥) (sym c.requires.home)
-          (subst (λ v. IsUnprimed v → ⊥) (sym c.load_value_word_at-word.ensures.found) primed)),
+    (sym c.shows.ensures ∙ none-of c.shows.result c.in_default.not-Some) in
+    let others = lasting.others slot.g k d c.requires.at.table c.requires.at.others in (
+      omega arith,
+      read-near chain c.requires.at,
+      others,
+      copied-away p seen slot.g k d slot.i others (slot-is c.requires.slot)
+          (lasting.claimed slot.g slot.i k c.requires.slot.placed.slot (c.requires.claimed own))
+          (subst (λ v. IsUnprimed v → ⊥) (sym c.load_value_word_at-word.ensures.found) primed),
     )
 
 pub returns-else-is_own-clause-made : goal.returns-else-is_own-clause-made

@@ -1,21 +1,23 @@
 use Rattle.std.proofs.Common.{◌∙◌, None, Some, inl, inr, refl, sym, subst, arith, rules, IsTrue}
 use Rattle.std.proofs.lemmas.Bool.{eq-eqb}
 use Rattle.std.proofs.lemmas.Nat.{pow_pos}
+use Rattle.nb_core.specs.Paths.{IsOnPathAt}
 use Rattle.nb_core.specs.Tables.{path_slot}
 use Rattle.nb_core.specs.declared.calls.Call.TheVariants as call
 use Rattle.nb_core.specs.declared.slot_paths.Slot.{Slot}
 use Rattle.nb_core.specs.declared.states.KeyState.{KeyState}
 use Rattle.nb_core.specs.declared.states.KeyState.TheVariants.{Claimed}
 use Rattle.nb_table.specs.Chains.{Extended, seen_by}
-use Rattle.nb_table.specs.Conditions.{IsReached}
 use Rattle.nb_table.specs.Events.{read, shown_by_key}
 use Rattle.nb_map.specs.Calling.{HasMade}
+use Rattle.nb_map.specs.inside.Climbing.{IsAt, rung_for_read}
 use Rattle.nb_map.specs.inside.Reading.{IsGlance, glanced_by}
 use Rattle.nb_map.proofs.Glanced.{glance-either, made-looked, turned}
 use Rattle.nb_map.proofs.Home.{dead-away, others-away}
-use Rattle.nb_map.proofs.OnPath.{found-on_path, load-on_path, slot-is, slot-of_path, slot-on_path, slot-reached}
+use Rattle.nb_map.proofs.OnPath.{found-on_path, load-on_path, slot-of_path, slot-on_path, slot-reached}
 use Rattle.nb_map.proofs.Made.{made-quiet, made-read, made-within}
-use Rattle.nb_map.proofs.Searched.{others-more, others-none, read-before, reached-lasts, shown-other, shown-own, two-slots}
+use Rattle.nb_map.proofs.Rungs.{at-stays}
+use Rattle.nb_map.proofs.Searched.{others-more, others-none, read-before, shown-other, shown-own, two-slots}
 use Rattle.nb_map.proofs.steps.get.glance_in.Goals as goal
 use Rattle.nb_table.proofs.Theorems.{steps_add_up}
 
@@ -78,7 +80,8 @@ returns-then-not-is_or_empty-clause-glance c =
     c.load_key_word_at-word.ensures.found in
     elim (c.is_or_empty.ensures.no c.if-not-is_or_empty.true) [
       | inl dead ↦
-          subst (IsGlance p seen c.args.g c.args.key) (sym (c.away.ensures.dead dead)) (
+          subst (IsGlance p seen c.args.g c.args.key 0) (sym (c.away.ensures.dead dead)) (
+            omega arith,
             pow_pos _,
             others-none p seen c.args.g c.args.key,
             dead-away p seen c.args.g c.args.key
@@ -91,35 +94,38 @@ returns-then-not-is_or_empty-clause-glance c =
           let others = others-more p _ _ lasting c.args.g c.args.key 0 _ other.0 table
           (others-none p (seen_by p c.args.seat.now) c.args.g c.args.key) refl
           (found ∙ other.1) other.2 in
-          subst (IsGlance p seen c.args.g c.args.key) (sym (c.away.ensures.other other.0 other.1))
-          (two-slots p c.requires.at.own.plan c.args.g table, others, others-away p seen c.args.g c.args.key 1 (omega arith) others)
+          subst (IsGlance p seen c.args.g c.args.key 0)
+          (sym (c.away.ensures.other other.0 other.1)) (
+            omega arith,
+            two-slots p c.requires.at.own.plan c.args.g table,
+            others,
+            others-away p seen c.args.g c.args.key 1 (omega arith) others,
+          )
     ]
+
+pub glance_at-requires-clause-at : goal.glance_at-requires-clause-at
+glance_at-requires-clause-at c =
+    let chain = c.args.chain.now in
+    let get = call.Get c.args.key in
+    let place = slot-of_path c.shape.ensures refl c.path.ensures c.slot-home.ensures in
+    subst (λ (home : Slot). IsAt chain get c.load_key_word_at-word.new.seat
+    (rung_for_read home.g 0)) (sym place.is)
+    (at-stays chain c.requires.at
+    (made-read chain.shape get _ c.load_key_word_at-word.ensures.grows))
 
 pub glance_at-requires-clause-slot : goal.glance_at-requires-clause-slot
 glance_at-requires-clause-slot c =
-    (slot-of_path c.shape.ensures refl c.path.ensures c.slot-home.ensures).placed
-
-pub glance_at-requires-clause-home : goal.glance_at-requires-clause-home
-glance_at-requires-clause-home c =
-    slot-is (slot-of_path c.shape.ensures refl c.path.ensures c.slot-home.ensures)
-
-pub glance_at-requires-clause-reached : goal.glance_at-requires-clause-reached
-glance_at-requires-clause-reached c =
-    let p = c.args.chain.now.shape in
     let place = slot-of_path c.shape.ensures refl c.path.ensures c.slot-home.ensures in
-    subst (λ (home : Slot). IsReached p (seen_by p c.load_key_word_at-word.new.seat) home.g
-    c.args.key) (sym place.is)
-    (reached-lasts p _ _ (steps_add_up.stays c.requires.at.own
-    (steps_add_up.one c.load_key_word_at-word.ensures.grows))
-    c.args.g c.args.key c.requires.at.table c.requires.at.reached)
+    subst (λ (home : Slot). IsOnPathAt c.args.chain.now.shape home.g c.args.key 0
+    c.slot-home.result) (sym place.is) place
 
 pub returns-clause-glance : goal.returns-clause-glance
 returns-clause-glance c =
     let p = c.args.chain.now.shape in
     let place = slot-of_path c.shape.ensures refl c.path.ensures c.slot-home.ensures in
-    subst (λ (home : Slot). IsGlance p (seen_by p c.glance_at.new.seat) home.g c.args.key
+    subst (λ (home : Slot). IsGlance p (seen_by p c.glance_at.new.seat) home.g c.args.key 0
     c.glance_at.result) place.is
-    (glance-either p (seen_by p c.glance_at.new.seat) _ c.args.key _ c.glance_at.result
+    (glance-either p (seen_by p c.glance_at.new.seat) _ c.args.key 0 _ c.glance_at.result
     c.glance_at.ensures.glance c.glance_at.ensures.empty)
 
 pub returns-clause-made : goal.returns-clause-made
