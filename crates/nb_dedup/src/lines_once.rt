@@ -3,29 +3,18 @@ ghost use Rattle.std.specs.Io.KnownBytes.{Appends};
 ghost use Rattle.std.specs.Prelude.{IfSome, OnOk, drop};
 ghost use Rattle.nb_texts.specs.Lines.{distinct, lines_in, text_of_lines};
 
-use nb_lines::{Done, ProgramFault, ProgressMeter};
-use nb_texts::{Catalog, Hashing, LineSource};
+use nb_lines::{Done, ProgramFault};
+use nb_texts::{Catalog, LinePlan, LineSource};
 use std::alloc::Global;
 use std::io::{Read, Write};
 use std::sync::Wait;
 use std::thread::Threads;
 
-/// How lines are taken.
-#[derive(Clone, Copy)]
-pub(crate) struct Plan {
-    pub(crate) hashing: Hashing,
-    /// How many threads hash lines.
-    pub(crate) workers: usize,
-    /// For how many different lines there is room at first.
-    pub(crate) room: usize,
-    pub(crate) progress: ProgressMeter,
-}
-
 /// Writes each line of an input where it comes first, and no line twice.
 pub(crate) fn print_once<R, I, W>(
     rt: &R,
     alloc: Global,
-    plan: Plan,
+    plan: LinePlan,
     reader: &mut I,
     writer: &mut W,
 ) -> Result<(), ProgramFault>
@@ -49,18 +38,10 @@ where
         catalog.make_room(alloc, lines.saturating_add(1))?;
         let _places = catalog.enter(rt, alloc, source.block(), plan.workers)?;
         write_from(alloc, &catalog, known, writer)?;
-        done = with_block(done, lines, source.block());
+        done = source.done_with(done, lines);
         plan.progress.tell_done(rt, done);
     }
     Err(ProgramFault::Read)
-}
-
-/// What is done once such a block is.
-fn with_block(done: Done, lines: usize, block: &[u8]) -> Done {
-    Done {
-        lines: done.lines.wrapping_add(lines as u64),
-        bytes: done.bytes.wrapping_add(block.len() as u64),
-    }
 }
 
 /// Writes the lines of a catalog from one on, each with a newline, at once.

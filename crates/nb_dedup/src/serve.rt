@@ -1,11 +1,11 @@
 //! The program: its words, what it reads and what it prints.
 
-use crate::lines_once::{Plan, print_once};
+use crate::lines_once::print_once;
 use crate::options::{LINE, LineOptions, Options, Task, task_of};
 use crate::printing::print;
 use crate::taking::take_all;
 use nb_lines::{ProgramFault, ProgressMeter};
-use nb_texts::Hashing;
+use nb_texts::{Hashing, LinePlan};
 use std::io;
 use std::io::Read;
 use std::random::RandomSource;
@@ -36,7 +36,7 @@ where
     R: Threads + Sync + Wait + Print + Eprint + AllocGlobal + RandomSource,
     I: Read + Drop,
 {
-    let plan = Plan {
+    let plan = LinePlan {
         hashing: Hashing::new(seed_of(rt, options)?, options.bits),
         workers: options.workers,
         room: options.room,

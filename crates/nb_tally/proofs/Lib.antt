@@ -1,2 +1,3 @@
 -- Lemmas.
 pub mod CountedLemmas
+pub mod FieldsLemmas

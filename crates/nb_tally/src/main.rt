@@ -7,10 +7,12 @@
 #![tactic(auto)]
 
 pub(crate) mod counting;
+pub(crate) mod fields;
 pub(crate) mod lines_counted;
 pub(crate) mod options;
 pub(crate) mod printing;
 pub(crate) mod serve;
+pub(crate) mod sorting;
 
 use nb_lines::{ProgressMeter, end_of, size_of_input};
 use std::io::IsTerminal;

@@ -1,5 +1,6 @@
 //! The words of the command line.
 
+use crate::fields::Column;
 use nb_core::{MAX_EXPONENT, Shape};
 use nb_lines::{
     Argument, CommandLine, Form, Given, NumberWord, ProgramFault, WORKERS, WordsFault, wrong_word,
@@ -38,6 +39,16 @@ const BITS: NumberWord = NumberWord {
 /// `--by ORDER`.
 const BY: &str = "--by";
 
+/// `--field N`: which field of each line is counted.
+const FIELD: NumberWord = NumberWord {
+    name: "--field",
+    low: 1,
+    high: 4_294_967_295,
+};
+
+/// `--delimiter C`: the byte between two fields.
+const DELIMITER: &str = "--delimiter";
+
 /// What is asked for.
 #[derive(Clone, Copy)]
 pub(crate) enum Task {
@@ -67,6 +78,8 @@ pub(crate) struct LineOptions {
     pub(crate) seed: Option<u64>,
     /// How many bits of a hash count.
     pub(crate) bits: u32,
+    /// Which column is counted, if not whole lines are.
+    pub(crate) column: Option<Column>,
     pub(crate) order: Order,
     /// How many lines are printed, if not all are.
     pub(crate) top: Option<u64>,
@@ -100,6 +113,11 @@ A line is any bytes up to a newline. There is no end to what may come but that o
 memory. With --top lines are printed by count, else by line, unless --by says how;
 equally frequent ones as they came first.
 
+With --field N what is counted is the N-th field of each line, as cut -f N gives
+it: each delimiter parts two fields, also where several stand side by side. Where
+a line has fewer fields, an empty one is counted, also where it has no delimiter
+at all; cut would give that line whole.
+
 With --numbers each line is one number from 0 to 18446744073709551613, in digits
 only. It ends with a newline, or with a carriage return and a newline. Numbers are
 printed in ascending order, like sort -n | uniq -c, or by count with --top.
@@ -125,6 +143,16 @@ pub(crate) const LINE: CommandLine = CommandLine {
             form: Form::Flag("--numbers"),
             default: None,
             help: "Count numbers alone, and print them in ascending order",
+        },
+        Argument {
+            form: Form::Number(FIELD, "N"),
+            default: None,
+            help: "Count the N-th field of each line, and not the line; 1 to 4294967295",
+        },
+        Argument {
+            form: Form::Text(DELIMITER, "C"),
+            default: None,
+            help: "With --field, the byte that parts fields, if it is no tab",
         },
         Argument {
             form: Form::Text(BY, "ORDER"),
@@ -167,16 +195,45 @@ pub(crate) fn task_of(alloc: Global, given: &Given) -> Result<Task, WordsFault> 
         room: keys,
         seed: SEED.find(alloc, given)?,
         bits: BITS.find(alloc, given)?.unwrap_or(64) as u32,
+        column: column_of(alloc, given)?,
         order: order_of(alloc, given, top)?,
         top,
     }))
 }
 
-/// To count numbers, whose order isn't asked for.
+/// To count numbers, whose order isn't asked for, nor a column of them.
 fn numbers_of(alloc: Global, given: &Given, options: Options) -> Result<Task, WordsFault> {
-    match given.text(BY) {
-        Some(order) => Err(wrong_word(alloc, BY, order, "not with --numbers")),
-        None => Ok(Task::Numbers(options)),
+    for name in [BY, FIELD.name, DELIMITER] {
+        if let Some(word) = given.text(name) {
+            return Err(wrong_word(alloc, name, word, "not with --numbers"));
+        }
+    }
+    Ok(Task::Numbers(options))
+}
+
+/// The column that is asked for. Its fields are parted by tabs, unless another byte is given.
+fn column_of(alloc: Global, given: &Given) -> Result<Option<Column>, WordsFault> {
+    let Some(number) = FIELD.find(alloc, given)? else {
+        return no_delimiter(alloc, given);
+    };
+    let word = given.text(DELIMITER).unwrap_or("\t");
+    match word.as_bytes() {
+        [delimiter] => Ok(Some(Column {
+            number: number as usize,
+            delimiter: *delimiter,
+        })),
+        _ => Err(wrong_word(alloc, DELIMITER, word, "not one byte")),
+    }
+}
+
+/// No column is asked for, and so no delimiter may be.
+fn no_delimiter(alloc: Global, given: &Given) -> Result<Option<Column>, WordsFault> {
+    match given.text(DELIMITER) {
+        Some(_) => {
+            let complaint = "no line has fields";
+            Err(wrong_word(alloc, DELIMITER, "without --field", complaint))
+        }
+        None => Ok(None),
     }
 }
 

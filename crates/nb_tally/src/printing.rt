@@ -2,12 +2,17 @@
 
 use crate::counting::Count;
 use crate::options::Order;
+use crate::sorting::sort_by_line;
+use itoa::Buffer;
 use nb_lines::ProgramFault;
 use nb_texts::Row;
 use std::alloc::Global;
 use std::cmp::Reverse;
 use std::io;
 use std::io::{BufWriter, Write};
+
+/// What stands before a number of no digits, so that numbers end alike.
+const SPACES: &[u8] = b"       ";
 
 /// Puts the counts into the order in which they are printed: ascending by number or, where only
 /// the most frequent numbers are asked for, these first, and equally frequent ones by number.
@@ -45,10 +50,10 @@ fn print_to<W: Write>(writer: &mut W, counts: &[Count]) -> io::Result<()> {
 }
 
 /// Puts the rows of lines into an order, and leaves as many as are asked for.
-pub(crate) fn sort_rows(rows: &mut Vec<Row<'_>>, order: Order, top: Option<u64>) {
+pub(crate) fn sort_rows(alloc: Global, rows: &mut Vec<Row<'_>>, order: Order, top: Option<u64>) {
     match order {
         Order::Count => rows.sort_unstable_by_key(|row| (Reverse(row.times), row.place)),
-        Order::Line => rows.sort_unstable(),
+        Order::Line => sort_by_line(alloc, rows.as_mut_slice()),
         Order::First => {}
     }
     if let Some(top) = top {
@@ -73,8 +78,12 @@ pub(crate) fn print_rows<W: Write + Drop>(
 
 /// The same, to a writer that may hold back what it is given.
 fn print_rows_to<W: Write>(writer: &mut W, rows: &[Row<'_>]) -> io::Result<()> {
+    let mut digits = Buffer::new();
     for Row { line, times, .. } in rows {
-        write!(writer, "{times:>7} ")?;
+        let times = digits.format(*times);
+        writer.write_all(&SPACES[times.len().min(SPACES.len())..])?;
+        writer.write_all(times.as_bytes())?;
+        writer.write_all(b" ")?;
         writer.write_all(line)?;
         writer.write_all(b"\n")?;
     }

@@ -1,11 +1,11 @@
 //! The program: its words, what it reads and what it prints.
 
 use crate::counting::tally;
-use crate::lines_counted::{Plan, tally_lines};
+use crate::lines_counted::tally_lines;
 use crate::options::{LINE, LineOptions, Options, Task, task_of};
 use crate::printing::{print, print_rows, sort, sort_rows};
 use nb_lines::{ProgramFault, ProgressMeter};
-use nb_texts::{Hashing, LineTally};
+use nb_texts::{Hashing, LinePlan, LineTally};
 use std::alloc::Global;
 use std::io;
 use std::io::Read;
@@ -37,14 +37,14 @@ where
     R: Threads + Sync + Wait + Print + Eprint + AllocGlobal + RandomSource,
     I: Read + Drop,
 {
-    let plan = Plan {
+    let plan = LinePlan {
         hashing: Hashing::new(seed_of(rt, options)?, options.bits),
         workers: options.workers,
         room: options.room,
         progress,
     };
     let mut reader = reader;
-    let counted = tally_lines(rt, rt.alloc(), plan, &mut reader);
+    let counted = tally_lines(rt, rt.alloc(), plan, options.column, &mut reader);
     progress.end(rt);
     print_tally(rt.alloc(), io::writer(rt), &counted?, options)
 }
@@ -57,7 +57,7 @@ fn print_tally<W: io::Write + Drop>(
     options: LineOptions,
 ) -> Result<(), ProgramFault> {
     let mut rows = tally.rows(alloc)?;
-    sort_rows(&mut rows, options.order, options.top);
+    sort_rows(alloc, &mut rows, options.order, options.top);
     print_rows(alloc, writer, rows.as_slice())
 }
 

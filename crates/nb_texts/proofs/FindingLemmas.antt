@@ -247,6 +247,24 @@ module _
           );
     }
 
+-- any map is an index of no texts
+pub index-none : (keys : List ℕ → ℕ → ℕ) (m : Numbers) → IsIndex keys [] m
+index-none keys m = record { found = λ place text at. absurd cc }
+
+-- a text that is there is entered by no call
+pub entered-known :
+    (keys : List ℕ → ℕ → ℕ) (map : MapOf) (seat : SeatOf) (texts : List (List ℕ)) (text : List ℕ)
+    (place : ℕ) → IsMine map seat → slice_get texts place ≡ Some text
+    → HasEntered keys seat seat texts texts (text ∷ [])
+entered-known keys map seat texts text place mine at = record {
+  made = [];
+  logged = logs_add_up.none mine;
+  told = λ m replayed index. (
+    index,
+    sym (ap (λ (b : Bool). if b then texts else texts ++ text ∷ []) (among texts text place at)),
+  );
+}
+
 -- ---- lines after lines
 
 pub entered-none :

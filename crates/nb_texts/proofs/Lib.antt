@@ -1,8 +1,9 @@
 -- Lemmas.
-pub mod AloneLemmas
+pub mod ClueLemmas
 pub mod FindingLemmas
 pub mod LinesLemmas
 pub mod PlacesLemmas
+pub mod RestLemmas
 pub mod SourceLemmas
 pub mod TallyLemmas
 pub mod Theorems

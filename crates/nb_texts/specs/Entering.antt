@@ -6,8 +6,6 @@ use Rattle.nb_core.specs.declared.calls.Call.{Call}
 use Rattle.nb_core.specs.declared.calls.Reply.{Reply}
 use Rattle.nb_map.specs.Logs.{HasLogged}
 use Rattle.nb_map.specs.Maps.{SeatOf}
-use Rattle.nb_map.specs.Handles.{HandleOf}
-use Rattle.nb_map.specs.OneSeat.{IsOnly}
 use Rattle.nb_texts.specs.Lines.{with_new_lines}
 
 -- ---- where a map has texts
@@ -48,8 +46,3 @@ pub record HasEntered (key : List ℕ → ℕ → ℕ) (before after : SeatOf)
   pub told :
       (m : Numbers) → AreReplayed made m → IsIndex key texts m
       → IsIndex key texts' (map_after_calls made m) × (texts' ≡ with_new_lines texts lines)
-
--- the handle has the only seat of its map
-pub record IsAlone (handle : HandleOf) : Type 0 where
-  pub only : IsOnly handle.map handle.seat
-  pub reserve : handle.reserve ≡ []

@@ -1,14 +1,19 @@
 //! A catalog: the distinct lines of a stream, found by their hashes in a map.
-ghost use Rattle.std.specs.Prelude.{◌≡◌, ◌++◌, [], ◌∷◌, ℕ, IfOk, List, OnOk, Some, drop, length, map, slice_get};
-ghost use Rattle.nb_map.specs.Handles.{KeepsRest};
+ghost use Rattle.std.specs.Prelude.{◌≡◌, ◌+◌, ◌≤◌, ◌++◌, [], ◌∷◌, ℕ, All, IfOk, List, MatchOption, None, OnOk, Some, drop, length, map, min, slice_get};
+ghost use Rattle.nb_core.specs.Plans.{HasRoomFor};
+ghost use Rattle.nb_core.specs.declared.shapes.TheConstants.{MOST_KEYS};
+ghost use Rattle.nb_map.specs.Handles.{IsSameMap, KeepsRest, all_seats, handle_on, seats_of};
 ghost use Rattle.nb_map.specs.Logs.{HasFound};
 ghost use Rattle.nb_map.specs.NamedCalls.{put_if_absent_of};
 ghost use Rattle.nb_map.specs.OneSeat.{held};
-ghost use Rattle.nb_texts.specs.Entering.{HasEntered, IsAlone};
+ghost use Rattle.nb_map.specs.Settling.{HaveSettled};
+ghost use Rattle.nb_texts.specs.Catalogs.{HaveOneLog};
+ghost use Rattle.nb_texts.specs.Clues.{AreCluesTo, ArePartedFrom, IsClueTo};
+ghost use Rattle.nb_texts.specs.Entering.{HasEntered};
 ghost use Rattle.nb_texts.specs.Hashes.{hash_of, key_for};
 ghost use Rattle.nb_texts.specs.Lines.{lines_in, text_of_lines, with_new_lines};
 
-use crate::hashed::hashes_of;
+use crate::clues::{Clue, Found, found_by};
 use crate::hashing::{Hashing, key_after};
 use crate::lines::split_line;
 use crate::texts::Texts;
@@ -19,14 +24,24 @@ use std::alloc::Global;
 use std::sync::Wait;
 use std::thread::Threads;
 
+/// The most threads that look lines up.
+const MOST_READERS: usize = 8;
+
+/// How many seats a map has: one to write with, and one for each reader.
+const SEATS: usize = MOST_READERS + 1;
+
+/// How many bytes are worth a thread.
+const WORTH: usize = 1 << 15;
+
 /// The distinct lines of what was entered, in the order of their first coming.
 #[derive(Drop)]
 pub struct Catalog {
     pub(crate) texts: Texts,
+    /// It has all seats of the map: its own, which writes, and those of readers in reserve.
     pub(crate) handle: Handle,
     pub(crate) hashing: Hashing,
     /// For how many lines the map has room.
-    room: usize,
+    pub(crate) room: usize,
 }
 
 impl Catalog {
@@ -38,8 +53,7 @@ impl Catalog {
         ensures empty { IfOk result (λ catalog. catalog.texts ≡ []) }
     {
         let room = room.min(MOST_KEYS);
-        let handle = Handle::open(alloc, shape_for(room)?)?;
-        handle.known();
+        let handle = Handle::open(alloc, shape_for(room))?;
         Ok(Catalog {
             texts: Texts::new(alloc),
             handle,
@@ -63,28 +77,34 @@ impl Catalog {
     }
 
     /// The line at a place.
-    pub fn get(&self, place: usize) -> Option<&[u8]> {
+    pub fn get(&self, place: usize) -> Option<&[u8]>
+        ensures { MatchOption result (slice_get self.now.texts place ≡ None)
+            (λ line. slice_get self.now.texts place ≡ Some line.now) }
+    {
         self.texts.get(place)
     }
 
-    /// Makes the map anew where it might not have room for so many more lines.
+    /// Makes the map anew where it might not have room for so many more lines: afterwards it has, or
+    /// has room for as many as any map can have.
     pub fn make_room(&mut self, alloc: Global, lines: usize) -> Result<(), ProgramFault>
         requires rest { IsAtRest self.old }
         ensures rest { OnOk result (IsAtRest self.new) }
+        ensures room { OnOk result (min (length self.new.texts + lines) MOST_KEYS ≤ self.new.room) }
         ensures same { self.new.texts ≡ self.old.texts }
     {
         let needed = self.texts.len().saturating_add(lines);
-        if needed <= self.room {
+        if needed.min(MOST_KEYS) <= self.room {
             return Ok(());
         }
         let room = needed.saturating_mul(2).min(MOST_KEYS);
-        renew(alloc, &mut self.handle, shape_for(room)?)?;
+        renew(alloc, &mut self.handle, shape_for(room))?;
         self.room = room;
         Ok(())
     }
 
     /// Enters the lines of a block, in their order, and answers their places. Several workers hash
-    /// them. For each line that isn't there yet the map needs room.
+    /// them, and look them up; then one enters those that weren't found. For each line that isn't
+    /// there yet the map needs room.
     pub fn enter<R: Threads + Sync + Wait>(
         &mut self,
         rt: &R,
@@ -99,7 +119,9 @@ impl Catalog {
         ensures places { IfOk result (λ places. map (slice_get self.new.texts) places.items
             ≡ map Some (lines_in block.now)) }
     {
-        let hashes = hashes_of(rt, alloc, self.hashing, block, workers)?;
+        let readers = parted(alloc, &mut self.handle, readers_for(block.len(), workers))?;
+        let found = found_by(rt, alloc, &self.texts, self.hashing, readers, block)?;
+        let Found { clues, readers } = found;
         let places = enter_lines(
             rt,
             alloc,
@@ -107,43 +129,90 @@ impl Catalog {
             &mut self.handle,
             self.hashing,
             block,
-            hashes.as_slice(),
+            clues.as_slice(),
         )?;
-        self.handle.known();
+        gather(alloc, &mut self.handle, readers)?;
         Ok(places)
     }
 }
 
-/// The shape of a map with one seat and room for so many keys.
-fn shape_for(room: usize) -> Result<Shape, ProgramFault>
-    ensures { IfOk result (λ shape. shape.seats ≡ 1) }
+/// The shape of a map with room for so many keys.
+fn shape_for(room: usize) -> Shape
+    requires { room ≤ MOST_KEYS }
+    ensures { HasRoomFor result room }
 {
-    let shape = Shape::for_keys(room, 1)?;
-    if shape.seats() == 1 {
-        Ok(shape)
-    } else {
-        Err(ProgramFault::Usage)
+    match Shape::for_keys(room, SEATS) {
+        Ok(shape) => shape,
+        Err(_) => unreachable!(),
     }
 }
 
-/// Makes a map with one seat anew.
+/// Makes a map anew.
 fn renew(alloc: Global, handle: &mut Handle, shape: Shape) -> Result<(), ProgramFault>
-    requires one { shape.seats ≡ 1 }
-    requires only { IsAlone handle.old }
-    ensures only { OnOk result (IsAlone handle.new) }
+    requires logs { HaveOneLog handle.old }
+    ensures logs { OnOk result (HaveOneLog handle.new) }
     ensures same { OnOk result (held handle.new.seat ≡ held handle.old.seat) }
+    ensures shape { OnOk result (handle.new.map.chain.shape ≡ shape) }
 {
     match handle.renew(alloc, shape) {
-        Ok(()) => {
-            handle.known();
-            Ok(())
-        }
+        Ok(()) => Ok(()),
         Err(RenewFault::OutOfMemory) => Err(ProgramFault::OutOfMemory),
         Err(RenewFault::Full | RenewFault::NotAll) => Err(ProgramFault::FullOfLines),
     }
 }
 
-/// Enters the lines of a block, whose hashes these are, one after another, and answers their places.
+/// How many readers look up the lines of so many bytes. One alone does no good: whoever enters the
+/// lines finds them as fast.
+fn readers_for(bytes: usize, workers: usize) -> usize {
+    match workers.min(bytes / WORTH).min(MOST_READERS) {
+        0 | 1 => 0,
+        readers => readers,
+    }
+}
+
+/// So many handles for readers, or fewer, each with a seat out of the reserve.
+fn parted(alloc: Global, handle: &mut Handle, count: usize) -> Result<Vec<Handle>, OutOfMemory>
+    ensures same { IsSameMap handle.old handle.new × (handle.new.seat ≡ handle.old.seat) }
+    ensures parted { IfOk result (λ readers. ArePartedFrom handle.old handle.new readers.items) }
+{
+    let mut readers = Vec::with_capacity(alloc, count)?;
+    for _ in 0..count {
+        let Ok(reader) = handle.split() else {
+            return Ok(readers);
+        };
+        readers.push(reader)?;
+    }
+    Ok(readers)
+}
+
+/// Takes the readers' seats into the reserve, and lets all seats know all calls.
+fn gather(alloc: Global, handle: &mut Handle, readers: Vec<Handle>) -> Result<(), OutOfMemory>
+    requires one { All (λ reader. reader.map ≡ handle.old.map) readers.items }
+    ensures map { IsSameMap handle.old handle.new }
+    ensures settled { OnOk result ((size : ℕ) × HaveSettled handle.old.map
+        (handle.old.seat ∷ handle.old.reserve ++ all_seats readers.items)
+        (seats_of handle.new) size) }
+{
+    let Ok(()) = handle.join_all(readers) else {
+        return Err(OutOfMemory);
+    };
+    settled(alloc, handle)
+}
+
+/// Lets all seats know all calls.
+fn settled(alloc: Global, handle: &mut Handle) -> Result<(), OutOfMemory>
+    ensures map { IsSameMap handle.old handle.new }
+    ensures settled { OnOk result ((size : ℕ) × HaveSettled handle.old.map (seats_of handle.old)
+        (seats_of handle.new) size) }
+{
+    match handle.settle(alloc) {
+        Ok(_size) => Ok(()),
+        Err(_) => Err(OutOfMemory),
+    }
+}
+
+/// Enters the lines of a block, to which these are clues, one after another, and answers their
+/// places.
 fn enter_lines<R: Wait>(
     rt: &R,
     alloc: Global,
@@ -151,9 +220,9 @@ fn enter_lines<R: Wait>(
     handle: &mut Handle,
     hashing: Hashing,
     block: &[u8],
-    hashes: &[u64],
+    clues: &[Clue],
 ) -> Result<Vec<usize>, ProgramFault>
-    requires { hashes.now ≡ map (hash_of hashing) (lines_in block.now) }
+    requires { AreCluesTo hashing texts.old (lines_in block.now) clues.now }
     ensures rest { KeepsRest handle.old handle.new }
     ensures entered { OnOk result (HasEntered (key_for hashing) handle.old.seat handle.new.seat
         texts.old texts.new (lines_in block.now)) }
@@ -161,18 +230,38 @@ fn enter_lines<R: Wait>(
         ≡ map Some (lines_in block.now)) }
 {
     handle.known();
-    let mut places = Vec::with_capacity(alloc, hashes.len())?;
+    let mut places = Vec::with_capacity(alloc, clues.len())?;
     let mut rest = block;
-    for hash in hashes {
-        if rest.is_empty() {
-            break;
-        }
+    for clue in clues {
         let (line, next) = split_line(rest);
-        let place = enter_line(rt, texts, handle, hashing, line, *hash)?;
+        let place = enter_by(rt, texts, handle, hashing, line, *clue)?;
         places.push(place)?;
         rest = next;
     }
     Ok(places)
+}
+
+/// Enters a line, to which this is a clue, and answers its place among the texts.
+fn enter_by<R: Wait>(
+    rt: &R,
+    texts: &mut Texts,
+    handle: &mut Handle,
+    hashing: Hashing,
+    line: &[u8],
+    clue: Clue,
+) -> Result<usize, ProgramFault>
+    requires { IsClueTo hashing texts.old line.now clue }
+    ensures rest { KeepsRest handle.old handle.new }
+    ensures entered { OnOk result (HasEntered (key_for hashing) handle.old.seat handle.new.seat
+        texts.old texts.new (line.now ∷ [])) }
+    ensures grown { OnOk result ((more : List (List ℕ)) × (texts.new ≡ texts.old ++ more)) }
+    ensures placed { IfOk result (λ place. slice_get texts.new place ≡ Some line.now) }
+{
+    handle.known();
+    match clue {
+        Clue::Place(place) => Ok(place),
+        Clue::Hash(hash) => enter_line(rt, texts, handle, hashing, line, hash),
+    }
 }
 
 /// Enters a line, which has this hash, and answers its place among the texts.

@@ -7,9 +7,10 @@
 #![tactic(auto)]
 
 mod catalog;
-mod hashed;
+mod clues;
 mod hashing;
 mod lines;
+mod plan;
 mod source;
 mod tally;
 mod texts;
@@ -17,6 +18,7 @@ mod texts;
 pub use catalog::Catalog;
 pub use hashing::Hashing;
 pub use lines::split_line;
+pub use plan::LinePlan;
 pub use source::LineSource;
 pub use tally::{LineTally, Row};
 pub use texts::Texts;

@@ -1,10 +1,10 @@
 //! An input, read in blocks of whole lines.
 ghost use Rattle.std.specs.Io.KnownBytes.{Consumes, IsAtEnd, Keeps};
-ghost use Rattle.std.specs.Prelude.{◌≡◌, ◌<◌, ◌≤◌, [], IfOk, MatchOption, length, take};
+ghost use Rattle.std.specs.Prelude.{◌≡◌, ◌+◌, ◌%◌, ◌^◌, ◌<◌, ◌≤◌, ◌==◌, [], IfOk, MatchOption, count_by, length, take};
 ghost use Rattle.nb_texts.specs.Sources.{HasCut, HasTakenIn};
 
-use memchr::{memchr_iter, memrchr};
-use nb_lines::ProgramFault;
+use memchr::memrchr;
+use nb_lines::{Done, ProgramFault};
 use std::alloc::Global;
 use std::io::{ErrorKind, Read};
 
@@ -50,8 +50,21 @@ impl LineSource {
     }
 
     /// How many newlines the block has. Only the last line of an input may have none.
-    pub fn newlines(&self) -> usize {
-        memchr_iter(b'\n', self.block.as_slice()).count()
+    pub fn newlines(&self) -> usize
+        ensures { result ≡ count_by (λ byte. byte == 10) self.now.block.items }
+    {
+        newlines_in(self.block.as_slice())
+    }
+
+    /// What is done once the block is too, which has so many newlines.
+    pub fn done_with(&self, done: Done, newlines: usize) -> Done
+        ensures lines { result.lines ≡ (done.lines + newlines) % 2 ^ 64 }
+        ensures bytes { result.bytes ≡ (done.bytes + length self.now.block.items) % 2 ^ 64 }
+    {
+        Done {
+            lines: done.lines.wrapping_add(newlines as u64),
+            bytes: done.bytes.wrapping_add(self.block.len() as u64),
+        }
     }
 
     /// Reads the next block: whole lines that are there, one at least, for which it waits. It answers
@@ -77,6 +90,19 @@ impl LineSource {
         }
         Err(ProgramFault::Read)
     }
+}
+
+/// How many newlines a text has.
+fn newlines_in(text: &[u8]) -> usize
+    ensures { result ≡ count_by (λ byte. byte == 10) text.now }
+{
+    let mut newlines = 0;
+    for byte in text {
+        if *byte == b'\n' {
+            newlines += 1;
+        }
+    }
+    newlines
 }
 
 /// Reads what is there behind a block, up to the last newline, and what comes behind that as the rest.

@@ -1,5 +1,5 @@
 //! Texts one behind another, which only grow.
-ghost use Rattle.std.specs.Prelude.{◌≡◌, ◌↔◌, ◌++◌, ◌∷◌, [], IfOk, IsTrue, OnOk, Some, drop, length, slice_get};
+ghost use Rattle.std.specs.Prelude.{◌≡◌, ◌↔◌, ◌++◌, ◌∷◌, [], IfOk, IsTrue, MatchOption, None, OnOk, Some, drop, length, slice_get};
 ghost use Rattle.nb_texts.specs.Lines.{text_of_lines};
 
 use nb_core::OutOfMemory;
@@ -71,7 +71,10 @@ impl Texts {
     }
 
     /// The text at a place.
-    pub fn get(&self, place: usize) -> Option<&[u8]> {
+    pub fn get(&self, place: usize) -> Option<&[u8]>
+        ensures { MatchOption result (slice_get self.now place ≡ None)
+            (λ text. slice_get self.now place ≡ Some text.now) }
+    {
         let Place { start, end } = *self.places.get(place)?;
         Some(&self.bytes[start..end])
     }

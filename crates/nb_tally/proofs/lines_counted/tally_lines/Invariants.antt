@@ -5,5 +5,5 @@ use Rattle.nb_tally.proofs.lines_counted.tally_lines.Given as goal
 abbrev pub invariant-loop : goal.invariant-loop
 invariant-loop g l =
     IsAtRest l.tally.catalog
-    × IsUnderway (g.I.Read.remaining l.fn.reader) (g.I.Read.remaining l.reader)
+    × IsUnderway l.fn.column (g.I.Read.remaining l.fn.reader) (g.I.Read.remaining l.reader)
     l.tally.catalog.texts l.tally.counts.items l.source.rest.items

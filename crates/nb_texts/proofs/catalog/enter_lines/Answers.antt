@@ -1,53 +1,91 @@
-use Rattle.std.proofs.Common.{◌≡◌, ◌∙◌, ◌<◌, ◌+◌, [], ◌∷◌, ◌++◌, ap, append_assoc, drop, get_or, length, map, refl, sym}
-use Rattle.std.specs.Prelude.{slice_get}
-use Rattle.std.proofs.lemmas.List.{drop_more}
-use Rattle.nb_texts.proofs.FindingLemmas.{entered-none, entered-then, places-more}
-use Rattle.nb_texts.specs.Hashes.{hash_of, key_for}
+use Rattle.std.proofs.Common.{◌≡◌, ◌∙◌, ◌+◌, ap, drop, map, refl, subst}
+use Rattle.std.specs.Prelude.{Some, slice_get, slice_index_or}
+use Rattle.std.proofs.lemmas.List.{drop_all, drop_more}
+use Rattle.nb_texts.specs.Entering.{HasEntered}
+use Rattle.nb_texts.specs.Hashes.{key_for}
 use Rattle.nb_texts.specs.Lines.{lines_in}
+use Rattle.nb_texts.specs.declared.clues.Clue.TheVariants.{Place}
+use Rattle.nb_texts.proofs.ClueLemmas.{clue-now, entering-begun, entering-done, entering-more, some-left}
 use Rattle.nb_texts.proofs.catalog.enter_lines.Goals as goal
 
-pub loop-hash-init : goal.loop-hash-init
-loop-hash-init g c = (
-  record { map = refl; reserve = refl },
-  c.requires,
-  (
-    [],
-    refl,
-    entered-none (key_for c.args.hashing) c.args.handle.now.map c.args.handle.now.seat
-        c.args.texts.now c.known.ensures.own,
-    ap (map (slice_get c.args.texts.now)) c.in_ok-places.ensures.items,
-  ),
-)
+pub loop-clue-init : goal.loop-clue-init
+loop-clue-init g c = record {
+  kept = record { map = refl; reserve = refl };
+  so_far =
+      entering-begun c.args.hashing c.args.handle.now.map c.args.handle.now.seat c.args.texts.now
+      (lines_in c.args.block.now) c.args.clues.now c.in_ok-places.places.items c.known.ensures.own
+      c.requires c.in_ok-places.ensures.items;
+}
 
-pub loop-hash-preserved : goal.loop-hash-preserved
-loop-hash-preserved g c =
-    let now = c.loop-hash in
-    let before = c.args.handle.now in
-    let rest = c.in_ok-place.ensures.rest in
-    let hash = hash_of c.args.hashing in
-    let line = c.split_line.result.0.now in
-    let next = c.split_line.result.1.now in
-    let done = now.invariant.2.0 in
-    let split : lines_in now.rest.now ≡ line ∷ lines_in next = c.split_line.ensures.line in
-    let less : now.hash-index < length c.args.hashes.now = c.loop-hash-test.true in
-    let hashes : get_or c.args.hashes.now now.hash-index 0 ∷ drop (now.hash-index + 1) c.args.hashes.now
-    ≡ hash line ∷ map hash (lines_in next)
-    = sym (drop_more c.args.hashes.now now.hash-index 0 less) ∙ now.invariant.1 ∙ ap (map hash) split in (
-      record {
-        map = rest.map ∙ now.invariant.0.map;
-        reserve = rest.reserve ∙ now.invariant.0.reserve;
-      },
-      cc,
-      (
-        done ++ line ∷ [],
-        now.invariant.2.1 ∙ ap (λ lines. done ++ lines) split
-            ∙ sym (append_assoc done (line ∷ []) (lines_in next)),
-        entered-then (key_for c.args.hashing) before.seat now.handle.seat c.enter_line.new.handle.seat
-            c.args.texts.now now.texts c.enter_line.new.texts done (line ∷ []) now.invariant.2.2
-            c.in_ok-place.ensures.entered,
-        ap (map (slice_get c.enter_line.new.texts)) c.in_ok-push.ensures.items
-            ∙ places-more now.texts c.enter_line.new.texts c.in_ok-place.ensures.grown.0
-            now.places.items done c.in_ok-place.place line c.in_ok-place.ensures.grown.1
-            now.invariant.2.3 c.in_ok-place.ensures.placed,
-      ),
-    )
+pub returns-clause-entered : goal.returns-clause-entered
+returns-clause-entered g c =
+    let now = c.loop-clue in
+    let hashing = c.args.hashing in
+    let before = c.args.handle.now.seat in
+    let texts = c.args.texts.now in
+    let lines = lines_in c.args.block.now in
+    let so_far = now.invariant.so_far in
+    let all : so_far.done ≡ lines
+    = entering-done hashing before now.handle.seat texts now.texts lines (lines_in now.rest.now)
+    (drop now.clue-index c.args.clues.now) now.places.items so_far
+    (drop_all now.clue-index c.args.clues.now c.loop-clue-test.false) in
+    subst (HasEntered (key_for hashing) before now.handle.seat texts now.texts) all so_far.entered
+
+pub returns-clause-places : goal.returns-clause-places
+returns-clause-places g c =
+    let now = c.loop-clue in
+    let hashing = c.args.hashing in
+    let before = c.args.handle.now.seat in
+    let texts = c.args.texts.now in
+    let lines = lines_in c.args.block.now in
+    let so_far = now.invariant.so_far in
+    let all : so_far.done ≡ lines
+    = entering-done hashing before now.handle.seat texts now.texts lines (lines_in now.rest.now)
+    (drop now.clue-index c.args.clues.now) now.places.items so_far
+    (drop_all now.clue-index c.args.clues.now c.loop-clue-test.false) in
+    subst (λ lines. map (slice_get now.texts) now.places.items ≡ map Some lines) all so_far.placed
+
+pub split_line-requires : goal.split_line-requires
+split_line-requires g c =
+    let now = c.loop-clue in
+    let clues = c.args.clues.now in
+    record {
+      some = λ none.
+          some-left c.args.hashing c.args.handle.now.seat now.handle.seat c.args.texts.now now.texts
+          (lines_in c.args.block.now) (lines_in now.rest.now) (drop now.clue-index clues)
+          now.places.items now.invariant.so_far (slice_index_or clues now.clue-index (Place 0))
+          (drop (now.clue-index + 1) clues)
+          (drop_more clues now.clue-index (Place 0) c.loop-clue-test.true) (ap lines_in none);
+    }
+
+pub enter_by-requires : goal.enter_by-requires
+enter_by-requires g c =
+    let now = c.loop-clue in
+    let clues = c.args.clues.now in
+    clue-now c.args.hashing c.args.handle.now.seat now.handle.seat c.args.texts.now now.texts
+    (lines_in c.args.block.now) (lines_in now.rest.now) (drop now.clue-index clues) now.places.items
+    now.invariant.so_far (slice_index_or clues now.clue-index (Place 0))
+    (drop (now.clue-index + 1) clues) c.split_line.result.0.now (lines_in c.split_line.result.1.now)
+    (drop_more clues now.clue-index (Place 0) c.loop-clue-test.true) c.split_line.ensures.line
+
+pub loop-clue-preserved : goal.loop-clue-preserved
+loop-clue-preserved g c =
+    let now = c.loop-clue in
+    let clues = c.args.clues.now in
+    let kept = c.in_ok-place.ensures.rest in
+    record {
+      kept = record {
+        map = kept.map ∙ now.invariant.kept.map;
+        reserve = kept.reserve ∙ now.invariant.kept.reserve;
+      };
+      so_far =
+          entering-more c.args.hashing c.args.handle.now.seat now.handle.seat c.args.texts.now
+          now.texts (lines_in c.args.block.now) (lines_in now.rest.now) (drop now.clue-index clues)
+          now.places.items now.invariant.so_far (slice_index_or clues now.clue-index (Place 0))
+          (drop (now.clue-index + 1) clues) c.split_line.result.0.now
+          (lines_in c.split_line.result.1.now) c.enter_by.new.handle.seat c.enter_by.new.texts
+          c.in_ok-place.ensures.grown.0 c.push.new.self.items c.in_ok-place.place
+          (drop_more clues now.clue-index (Place 0) c.loop-clue-test.true) c.split_line.ensures.line
+          c.in_ok-place.ensures.entered c.in_ok-place.ensures.grown.1 c.in_ok-place.ensures.placed
+          c.in_ok-push.ensures.items;
+    }

@@ -1,7 +1,16 @@
-use Rattle.nb_texts.proofs.AloneLemmas.{renewed-same}
+use Rattle.nb_texts.proofs.RestLemmas.{one-log, renewed-same}
 use Rattle.nb_texts.proofs.catalog.renew.Goals as goal
+
+pub returns-in-Ok-clause-logs : goal.returns-in-Ok-clause-logs
+returns-in-Ok-clause-logs c =
+    let after = c.renew.new.self in
+    let begun = c.in-Ok.ensures.renewed.begun.begun in
+    one-log begun.whole after.seat after.reserve begun.logs
 
 pub returns-in-Ok-clause-same : goal.returns-in-Ok-clause-same
 returns-in-Ok-clause-same c =
-    renewed-same c.args.shape c.args.handle.now c.renew.new.self c.requires.only
+    renewed-same c.args.shape c.args.handle.now c.renew.new.self c.requires.logs
     c.in-Ok.ensures.renewed
+
+pub returns-in-Ok-clause-shape : goal.returns-in-Ok-clause-shape
+returns-in-Ok-clause-shape c = c.in-Ok.ensures.renewed.begun.made.shape

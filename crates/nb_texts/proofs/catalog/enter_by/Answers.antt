@@ -1,0 +1,21 @@
+use Rattle.std.proofs.Common.{◌≡◌, [], Some, append-nil, refl, subst, sym}
+use Rattle.std.specs.Prelude.{slice_get}
+use Rattle.nb_texts.specs.Clues.{IsClueTo}
+use Rattle.nb_texts.specs.Hashes.{key_for}
+use Rattle.nb_texts.specs.declared.clues.Clue.TheVariants.{Place}
+use Rattle.nb_texts.proofs.FindingLemmas.{entered-known}
+use Rattle.nb_texts.proofs.catalog.enter_by.Goals as goal
+
+pub returns-in-Place-clause-entered : goal.returns-in-Place-clause-entered
+returns-in-Place-clause-entered g c =
+    let at : slice_get c.args.texts.now c.in-Place.place ≡ Some c.args.line.now
+    = subst (IsClueTo c.args.hashing c.args.texts.now c.args.line.now) c.in-Place.is c.requires in
+    entered-known (key_for c.args.hashing) c.args.handle.now.map c.args.handle.now.seat
+    c.args.texts.now c.args.line.now c.in-Place.place c.known.ensures.own at
+
+pub returns-in-Place-clause-grown : goal.returns-in-Place-clause-grown
+returns-in-Place-clause-grown g c = ([], sym (append-nil c.args.texts.now))
+
+pub returns-in-Place-clause-placed : goal.returns-in-Place-clause-placed
+returns-in-Place-clause-placed g c =
+    subst (IsClueTo c.args.hashing c.args.texts.now c.args.line.now) c.in-Place.is c.requires

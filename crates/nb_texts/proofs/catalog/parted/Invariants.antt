@@ -1,0 +1,11 @@
+use Rattle.std.proofs.Common.{◌≡◌}
+use Rattle.nb_map.specs.Handles.{IsSameMap}
+use Rattle.nb_texts.specs.Clues.{ArePartedFrom}
+use Rattle.nb_texts.proofs.catalog.parted.Given as goal
+
+abbrev pub invariant-loop : goal.invariant-loop
+invariant-loop l = record {
+  map : IsSameMap l.fn.handle l.handle;
+  seat : l.handle.seat ≡ l.fn.handle.seat;
+  parted : ArePartedFrom l.fn.handle l.handle l.readers.items;
+}

@@ -1,0 +1,14 @@
+use Rattle.std.proofs.Common.{length}
+use Rattle.nb_texts.specs.Clues.{HasOnlyLooked}
+use Rattle.nb_texts.specs.Lines.{lines_in}
+use Rattle.nb_texts.proofs.ClueLemmas.{AreCluesSoFar}
+use Rattle.nb_texts.proofs.clues.looked_up.Given as goal
+
+abbrev pub invariant-loop-rest : goal.invariant-loop-rest
+invariant-loop-rest l = record {
+  so_far : AreCluesSoFar l.hashing l.texts (lines_in l.text) (lines_in l.rest) l.clues.items;
+  looked : HasOnlyLooked l.fn.reader l.reader;
+}
+
+abbrev pub decreases-loop-rest : goal.decreases-loop-rest
+decreases-loop-rest l = length l.rest

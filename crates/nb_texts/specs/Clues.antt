@@ -1,0 +1,40 @@
+-- What is known of lines before they are entered, and what it took to find it.
+use Rattle.std.specs.List.{AllZip}
+use Rattle.std.specs.Prelude.{◌≡◌, ◌++◌, ℕ, All, List, Some, map, reverse, slice_get}
+use Rattle.nb_core.specs.declared.calls.Call.{Call}
+use Rattle.nb_core.specs.declared.calls.Reply.{Reply}
+use Rattle.nb_map.specs.Entries.{IsRead}
+use Rattle.nb_map.specs.Handles.{HandleOf, KeepsRest, handle_on}
+use Rattle.nb_map.specs.Logs.{HasLogged}
+use Rattle.nb_texts.specs.Hashes.{hash_of}
+use Rattle.nb_texts.specs.declared.clues.Clue.TheVariants.{Hash, Place}
+use Rattle.nb_texts.specs.declared.clues.Clue.{Clue}
+use Rattle.nb_texts.specs.declared.clues.Found.{Found}
+use Rattle.nb_texts.specs.declared.hashing.Hashing.{Hashing}
+
+-- the clue to a line is right: the line is at this place among the texts, or has this hash
+abbrev pub IsClueTo : Hashing → List (List ℕ) → (line : List ℕ) → Clue → Type 0
+IsClueTo hashing texts line (Place place) = slice_get texts place ≡ Some line
+IsClueTo hashing texts line (Hash hash) = hash ≡ hash_of hashing line
+
+-- and so is each of these, line by line
+abbrev pub AreCluesTo : Hashing → List (List ℕ) → (lines : List (List ℕ)) → List Clue → Type 0
+AreCluesTo hashing texts = AllZip (IsClueTo hashing texts)
+
+-- The handle is of its map still, with the same reserve, and its seat has made no calls but reads.
+pub record HasOnlyLooked (before after : HandleOf) : Type 0 where
+  pub rest : KeepsRest before after
+  pub made : List (Call × Reply)
+  pub reads : All IsRead made
+  pub logged : HasLogged before.seat after.seat made
+
+-- These handles were parted from one: each has a seat of its reserve, the last one first.
+pub record ArePartedFrom (before after : HandleOf) (parted : List HandleOf) : Type 0 where
+  pub seats : before.reserve ≡ after.reserve ++ reverse (map (λ handle. handle.seat) parted)
+  pub each : All (λ handle. handle ≡ handle_on before.map handle.seat) parted
+
+-- The clues to these lines are right, and the readers that found them have only looked.
+pub record AreFound (hashing : Hashing) (texts lines : List (List ℕ)) (readers : List HandleOf)
+    (found : Found) : Type 0 where
+  pub clues : AreCluesTo hashing texts lines found.clues.items
+  pub looked : AllZip HasOnlyLooked readers found.readers.items
