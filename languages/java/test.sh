@@ -55,7 +55,7 @@ while read -r version home; do
     "$home/bin/java" "${flags[@]}" -Dsamvolip="$(dirname "$library")" Visits > "$made/told" 2> "$made/errors" || { cat "$made/errors"; fail "the example of Java $version fails"; }
     diff "$here/examples/Visits.out" "$made/told" || fail "the example of Java $version prints something else"
 
-    "$home/bin/java" "${short[@]}" "${flags[@]}" -Dsamvolip="$library" Cost case 1 add false 20 > "$made/told" 2>&1 || fail "the benchmark of Java $version fails"
+    "$home/bin/java" "${short[@]}" "${flags[@]}" -Dsamvolip="$library" Cost case 1 add false 20 10000 > "$made/told" 2>&1 || fail "the benchmark of Java $version fails"
 
     if [ -n "$guava" ]; then
         "$home/bin/java" "${short[@]}" "${flags[@]}" -cp "$made/samvolip.jar:$made/tests$guava" -Dsamvolip="$library" GuavaTest > "$made/told" 2> "$made/errors" \

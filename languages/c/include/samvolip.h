@@ -71,8 +71,9 @@
  * blocks of 256 KiB and more, as tables and lists of large maps are. Those libsamvolip.so and
  * libsamvolip.a take from the system, in huge pages where it has some, and give back when they are
  * freed, but for two of a size, of 2 to 16 MiB, while another of it is in use; those of less than 2
- * MiB lie together in 8 MiB of addresses, which are given back with the last of them. So a handle is
- * used with the copy of the library that opened its map.
+ * MiB lie together in 8 MiB of addresses, which are given back with the last of them, but for two
+ * such, until a block of more than 8 MiB is taken. So a handle is used with the copy of the library
+ * that opened its map.
  *
  * Versions. samvolip_open tells the library which header the program was compiled with: its version
  * and the sizes of its structs. The library takes each header of its series, from version 0.9.0 on,

@@ -41,6 +41,7 @@ enum { AGAIN = 2 };   /* beside the codes of a call: it is to be made again */
 
 /* A gate that is open is the map's id. FENCED is open where the system has no membarrier. A place that has no core is CLOSED. */
 enum gate { FENCED = 1, READS_ONLY, CLOSED, FIRST_ID };
+enum change { COMES, GOES, STAYS }; /* a key, by a write */
 enum busy { REST, READS, WRITES, WAITS }; /* a busy word is one of these plus the part's address; WAITS is of no part */
 
 /* A proved map of one table. */
@@ -62,7 +63,8 @@ typedef struct part {
 /* A way into the map. */
 typedef struct lane {
     _Alignas(128) atomic_uintptr_t busy; /* of a lane that threads share: REST, or the busy word of who has it */
-    uint32_t left[PLACES];               /* keys that come or go there until it looks how full the part is */
+    struct thread *_Atomic owner;        /* which thread has it as its own */
+    uint32_t left[PLACES][2];            /* keys that come, and that go, there until it looks how full the part is */
 } lane;
 
 /* Places that follow each other; and a set of places, a bit for each. */
@@ -102,13 +104,13 @@ struct samvolip_map {
     _Alignas(128) part parts[PLACES];
     _Alignas(128) pthread_mutex_t lock;
     pthread_cond_t turned; /* a gate, the work or who is alone has changed */
+    atomic_uint told;      /* how often */
     atomic_uint held;      /* the places with which somebody is alone, to renew, clear, count, list or fork */
     job *jobs;             /* that are under way: who waits may help */
     lane *lanes;
-    struct thread *_Atomic *owners; /* which thread has the lane */
-    unsigned count;                 /* of lanes */
-    atomic_uint taken;              /* lanes with an owner */
-    uint64_t slots;                 /* of the cores that there are, and of those to come */
+    unsigned count;    /* of lanes */
+    atomic_uint taken; /* lanes with an owner */
+    uint64_t slots;    /* of the cores that there are, and of those to come */
     samvolip_map_options options;
     samvolip_map_figures figures;
     void *(*let_go)(void); /* samvolip_map_lets_go; NULL: nothing is let go of */
@@ -155,13 +157,10 @@ void take_back(const samvolip_map *map, void *held);
 /* gate.c */
 extern bool has_membarrier;
 void begin_gate(void);
-void lock(samvolip_map *map);
-void unlock(samvolip_map *map);
 void tell(samvolip_map *map);
 void pause_for(unsigned turn);
 uint64_t nanoseconds(void);
 bool admits(const part *into, unsigned what);
-void close_gates(samvolip_map *map, range places, enum gate to);
 void open_gates(samvolip_map *map, range places);
 uint64_t stop(samvolip_map *map, range places, enum gate to);
 void go_on(samvolip_map *map, range places, uint64_t writes, uint64_t reads);
@@ -181,7 +180,7 @@ int end_write(samvolip_map *map, part *in, int code, bool looks);
 
 /* walks.c */
 void begin_walk(samvolip_map_walk *walk, samvolip_map *map);
-void show_all(samvolip_map_walk *walk, samvolip_map_visit *visit, void *context);
+int show_all(samvolip_map_walk *walk, samvolip_map_visit *visit, void *context);
 
 #pragma GCC visibility pop
 
@@ -246,6 +245,9 @@ static inline uint64_t greater(uint64_t one, uint64_t other) { return one > othe
 
 /* ---- how a call begins and ends ------------------------------------------------------------ */
 
+static inline void lock(samvolip_map *map) { pthread_mutex_lock(&map->lock); }
+static inline void unlock(samvolip_map *map) { pthread_mutex_unlock(&map->lock); }
+
 static inline uintptr_t busy_word(const part *in, unsigned what) { return (uintptr_t)in + what; }
 
 static inline bool is_inside(void) { return UNLIKELY(atomic_load_explicit(&here.busy, memory_order_relaxed) != REST); }
@@ -282,7 +284,12 @@ static inline lane *used_lane(const samvolip_map *map) { return UNLIKELY(here.sh
 static inline samvolip_seat *used_seat(const samvolip_map *map, const part *in) { return &in->core->seats[used_lane(map) - map->lanes]; }
 
 /* During a write by this lane, after which a key has come or gone: whether it is time to look how full the part is. */
-static inline bool counts_down(const samvolip_map *map, lane *used, const part *in) { return used->left[place_of(map, in)]-- == 0; }
+static inline bool counts_down(const samvolip_map *map, lane *used, const part *in, enum change change)
+{
+    uint32_t *left = used->left[place_of(map, in)];
+    left[GOES] += change == COMES;
+    return left[change]-- == 0;
+}
 
 static inline void leave(void)
 {

@@ -9,6 +9,7 @@
 #include <unistd.h>
 
 enum { PIECE = 128 }; /* slots that are copied or listed at a time */
+enum { AWAKE = 160 }; /* for how many turns who waits doesn't sleep */
 
 bool has_membarrier;
 
@@ -44,9 +45,24 @@ uint64_t nanoseconds(void)
     return (uint64_t)at.tv_sec * 1000000000u + (uint64_t)at.tv_nsec;
 }
 
-void lock(samvolip_map *map) { pthread_mutex_lock(&map->lock); }
-void unlock(samvolip_map *map) { pthread_mutex_unlock(&map->lock); }
-void tell(samvolip_map *map) { pthread_cond_broadcast(&map->turned); }
+/* With the lock: a gate, the work or who is alone has changed. */
+void tell(samvolip_map *map)
+{
+    map->told++;
+    pthread_cond_broadcast(&map->turned);
+}
+
+/* With the lock: waits until somebody tells, and sleeps only if that takes long. */
+static void wait_to_be_told(samvolip_map *map)
+{
+    unsigned told = map->told;
+    unlock(map);
+    for (unsigned turn = 0; turn < AWAKE && map->told == told; turn++)
+        pause_for(turn);
+    lock(map);
+    if (map->told == told)
+        pthread_cond_wait(&map->turned, &map->lock);
+}
 
 /* ---- gates --------------------------------------------------------------------------------- */
 
@@ -59,17 +75,19 @@ bool admits(const part *into, unsigned what)
 /* Whether a call of this kind is under way by a lane in one of these places. With the lock, so that the lane's thread doesn't end. */
 static bool is_busy(const samvolip_map *map, unsigned i, range places, unsigned what)
 {
-    struct thread *owner = map->owners[i];
-    uintptr_t word = owner ? atomic_load(&owner->busy) : atomic_load(&map->lanes[i].busy);
+    const lane *one = &map->lanes[i];
+    const struct thread *owner = atomic_load(&one->owner);
+    uintptr_t word = atomic_load(owner ? &owner->busy : &one->busy);
     uintptr_t from = word - (uintptr_t)&map->parts[places.first];
     return from % sizeof(part) == what && from / sizeof(part) < places.count;
 }
 
-/* Alone with these places: closes their gates. Afterwards all writes, or all calls, have come to their end there. The lock is held all
-   the while, so that no thread gives its lane back and ends; a call that is under way doesn't take it. While the lock is held nobody
-   takes memory. */
-void close_gates(samvolip_map *map, range places, enum gate to)
+/* Alone with these places: closes their gates, and says since when. Afterwards all writes, or all calls, have come to their end there.
+   The lock is held all the while, so that no thread gives its lane back and ends; a call that is under way doesn't take it. While the
+   lock is held nobody takes memory. */
+uint64_t stop(samvolip_map *map, range places, enum gate to)
 {
+    uint64_t since = nanoseconds();
     lock(map);
     for (unsigned i = 0; i < places.count; i++)
         atomic_store(&map->parts[places.first + i].gate, to);
@@ -78,6 +96,7 @@ void close_gates(samvolip_map *map, range places, enum gate to)
         for (unsigned turn = 0; is_busy(map, i, places, WRITES) || (to == CLOSED && is_busy(map, i, places, READS)); turn++)
             pause_for(turn);
     unlock(map);
+    return since;
 }
 
 /* With the lock. */
@@ -86,14 +105,6 @@ void open_gates(samvolip_map *map, range places)
     for (unsigned i = 0; i < places.count; i++)
         atomic_store(&map->parts[places.first + i].gate, has_membarrier ? map->id : FENCED);
     tell(map);
-}
-
-/* Closes the gates, and says since when. */
-uint64_t stop(samvolip_map *map, range places, enum gate to)
-{
-    uint64_t since = nanoseconds();
-    close_gates(map, places, to);
-    return since;
 }
 
 /* With the lock: opens the gates. Writes had to wait since `writes`, and reads since `reads`. */
@@ -184,7 +195,7 @@ void share_out(samvolip_map *map, job *job)
     tell(map);
     help(map, job, 0);
     while (job->helpers > 0)
-        pthread_cond_wait(&map->turned, &map->lock);
+        wait_to_be_told(map);
     unlock(map);
 }
 
@@ -197,7 +208,7 @@ void wait_or_help(samvolip_map *map, place_set places, unsigned mine)
     if (one && mine)
         help(map, one, mine);
     else
-        pthread_cond_wait(&map->turned, &map->lock);
+        wait_to_be_told(map);
 }
 
 /* ---- who is alone -------------------------------------------------------------------------- */

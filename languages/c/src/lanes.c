@@ -17,7 +17,7 @@ static pthread_key_t at_end;
 unsigned find_lane(const samvolip_map *map)
 {
     for (unsigned i = COMMON; i < map->count; i++)
-        if (map->owners[i] == &here)
+        if (map->lanes[i].owner == &here)
             return i;
     return 0;
 }
@@ -30,8 +30,8 @@ static COLD unsigned arrive(samvolip_map *map)
         return 0;
     lock(map); /* nobody takes memory with it, so that a handler which waits for it may have interrupted malloc */
     for (unsigned i = COMMON; i < map->count && mine == 0; i++)
-        if (!map->owners[i]) {
-            map->owners[i] = &here;
+        if (!map->lanes[i].owner) {
+            map->lanes[i].owner = &here;
             map->taken++;
             mine = i;
         }
@@ -53,25 +53,25 @@ static unsigned own_lane(samvolip_map *map)
     return mine;
 }
 
-/* With the lock: takes the lane from this thread. */
+/* Takes the lane from this thread. */
 static void give_back(samvolip_map *map)
 {
+    lock(map);
     unsigned mine = find_lane(map);
     if (mine) {
-        map->owners[mine] = NULL;
+        map->lanes[mine].owner = NULL;
         map->taken--;
     }
     if ((here.ids[map->cell] & ~SHARES) == map->id)
         here.ids[map->cell] = 0;
+    unlock(map);
 }
 
 void samvolip_map_leave(samvolip_map *map)
 {
     if (!go_inside())
         return;
-    lock(map);
     give_back(map);
-    unlock(map);
     go_outside();
 }
 
@@ -81,11 +81,8 @@ static void thread_ends(void *unused)
     here.busy = WAITS;
     here.is_over = true;
     pthread_mutex_lock(&all_lock);
-    for (samvolip_map *map = maps; map; map = map->after) {
-        lock(map);
+    for (samvolip_map *map = maps; map; map = map->after)
         give_back(map);
-        unlock(map);
-    }
     pthread_mutex_unlock(&all_lock);
     here.busy = REST;
 }
@@ -150,10 +147,7 @@ COLD part *enter_slowly(samvolip_map *map, unsigned what, unsigned share)
         if (admits(into, what))
             return into;
         rest_lane();
-        for (unsigned turn = 0; turn < 64 && atomic_load(&into->gate) == CLOSED; turn++)
-            pause_for(turn);
-        if (!admits(into, what))
-            wait_for_gate(map, what, share, mine);
+        wait_for_gate(map, what, share, mine);
     }
 }
 
@@ -166,7 +160,7 @@ static void before_fork(void)
     pthread_mutex_lock(&all_lock);
     for (samvolip_map *map = maps; map; map = map->after) {
         be_alone(map, EVERYWHERE, NULL, 0);
-        close_gates(map, parts_of(map), CLOSED);
+        stop(map, parts_of(map), CLOSED);
         lock(map);
     }
 }
@@ -195,7 +189,7 @@ static void after_fork_in_child(void)
         unsigned mine = find_lane(map);
         for (unsigned i = 0; i < map->count; i++) {
             map->lanes[i].busy = REST; /* a thread may have been about to look at the gate */
-            map->owners[i] = i > 0 && i == mine ? &here : NULL;
+            map->lanes[i].owner = i > 0 && i == mine ? &here : NULL;
         }
         map->taken = mine != 0;
     }

@@ -6,9 +6,9 @@
 
 /* ---- calls --------------------------------------------------------------------------------- */
 
-/* A write of this name, which is `call` by `seat`; and after a renewal, if the part was full, all of it again. `is_change` says by its
-   code whether a key came or went. What isn't the common case stands apart, so that this takes few instructions. */
-#define WRITE(name, parameters, words, call, is_change)                                                                              \
+/* A write of this name, which is `call` by `seat`; and after a renewal, if the part was full, all of it again. `change` says by its
+   code whether a key comes or goes. What isn't the common case stands apart, so that this takes few instructions. */
+#define WRITE(name, parameters, words, call, change)                                                                                 \
     static COLD int name##_slowly parameters                                                                                         \
     {                                                                                                                                \
         uint64_t inner = inner_key(map, key), found __attribute__((unused));                                                         \
@@ -19,7 +19,7 @@
             part *into = enter_slowly(map, WRITES, share_of(map, inner));                                                            \
             samvolip_seat *seat = used_seat(map, into);                                                                              \
             code = call;                                                                                                             \
-            code = end_write(map, into, code, (is_change) && counts_down(map, used_lane(map), into));                                \
+            code = end_write(map, into, code, (change) != STAYS && counts_down(map, used_lane(map), into, change));                  \
         }                                                                                                                            \
         return code;                                                                                                                 \
     }                                                                                                                                \
@@ -31,7 +31,7 @@
         if (UNLIKELY(!seat))                                                                                                         \
             return name##_slowly words;                                                                                              \
         int code = call;                                                                                                             \
-        bool looks = (is_change) && UNLIKELY(counts_down(map, &map->lanes[here.lanes[map->cell]], into));                            \
+        bool looks = (change) != STAYS && UNLIKELY(counts_down(map, &map->lanes[here.lanes[map->cell]], into, change));              \
         if (LIKELY(code >= 0 && !looks)) {                                                                                           \
             go_outside();                                                                                                            \
             return code;                                                                                                             \
@@ -40,6 +40,8 @@
         return UNLIKELY(code == AGAIN) ? name##_slowly words : code;                                                                 \
     }
 #define KEY samvolip_map *map, uint64_t key
+#define COMES_IF_ABSENT (code == SAMVOLIP_ABSENT ? COMES : STAYS)
+#define GOES_IF_PRESENT (code == SAMVOLIP_PRESENT ? GOES : STAYS)
 
 static COLD int get_slowly(samvolip_map *map, uint64_t key, uint64_t *number)
 {
@@ -70,36 +72,27 @@ int samvolip_map_contains(samvolip_map *map, uint64_t key)
     return samvolip_map_get(map, key, &number);
 }
 
-WRITE(put, (KEY, uint64_t number, uint64_t *before), (map, key, number, before), samvolip_try_put(seat, inner, number, 1, before ? before : &found), code == SAMVOLIP_ABSENT)
+WRITE(put, (KEY, uint64_t number, uint64_t *before), (map, key, number, before), samvolip_try_put(seat, inner, number, 1, before ? before : &found), COMES_IF_ABSENT)
 
-WRITE(put_if_absent, (KEY, uint64_t number, uint64_t *before), (map, key, number, before), samvolip_try_put_if_absent(seat, inner, number, 1, before ? before : &found), code == SAMVOLIP_ABSENT)
+WRITE(put_if_absent, (KEY, uint64_t number, uint64_t *before), (map, key, number, before), samvolip_try_put_if_absent(seat, inner, number, 1, before ? before : &found), COMES_IF_ABSENT)
 
-WRITE(get_or_insert, (KEY, uint64_t number, uint64_t *there), (map, key, number, there), samvolip_get_or_insert(seat, inner, number, there), code == SAMVOLIP_ABSENT)
+WRITE(get_or_insert, (KEY, uint64_t number, uint64_t *there), (map, key, number, there), samvolip_get_or_insert(seat, inner, number, there), COMES_IF_ABSENT)
 
-WRITE(fetch_max, (KEY, uint64_t number, uint64_t *before), (map, key, number, before), samvolip_fetch_max(seat, inner, number, before), code == SAMVOLIP_ABSENT)
+WRITE(fetch_max, (KEY, uint64_t number, uint64_t *before), (map, key, number, before), samvolip_fetch_max(seat, inner, number, before), COMES_IF_ABSENT)
 
-WRITE(fetch_min, (KEY, uint64_t number, uint64_t *before), (map, key, number, before), samvolip_fetch_min(seat, inner, number, before), code == SAMVOLIP_ABSENT)
+WRITE(fetch_min, (KEY, uint64_t number, uint64_t *before), (map, key, number, before), samvolip_fetch_min(seat, inner, number, before), COMES_IF_ABSENT)
 
-WRITE(add, (KEY, uint64_t number, uint64_t *before), (map, key, number, before), samvolip_try_add(seat, inner, number, 1, before ? before : &found), code == SAMVOLIP_ABSENT)
+WRITE(add, (KEY, uint64_t number, uint64_t *before), (map, key, number, before), samvolip_try_add(seat, inner, number, 1, before ? before : &found), COMES_IF_ABSENT)
 
-WRITE(replace, (KEY, uint64_t number, uint64_t *before), (map, key, number, before), samvolip_replace(seat, inner, number, before), false)
+WRITE(replace, (KEY, uint64_t number, uint64_t *before), (map, key, number, before), samvolip_replace(seat, inner, number, before), STAYS)
 
-WRITE(replace_if, (KEY, uint64_t old, uint64_t number), (map, key, old, number), samvolip_replace_if(seat, inner, old, number), false)
+WRITE(replace_if, (KEY, uint64_t old, uint64_t number), (map, key, old, number), samvolip_replace_if(seat, inner, old, number), STAYS)
 
-WRITE(remove, (KEY, uint64_t *before), (map, key, before), samvolip_try_remove(seat, inner, 1, before ? before : &found), code == SAMVOLIP_PRESENT)
+WRITE(remove, (KEY, uint64_t *before), (map, key, before), samvolip_try_remove(seat, inner, 1, before ? before : &found), GOES_IF_PRESENT)
 
-WRITE(remove_if, (KEY, uint64_t number), (map, key, number), samvolip_remove_if(seat, inner, number), code == SAMVOLIP_PRESENT)
+WRITE(remove_if, (KEY, uint64_t number), (map, key, number), samvolip_remove_if(seat, inner, number), GOES_IF_PRESENT)
 
-static int exchange_at(samvolip_seat *seat, uint64_t key, const uint64_t *expected, const uint64_t *next, samvolip_reply *reply)
-{
-    int code;
-    do
-        code = samvolip_compare_exchange(seat, key, expected, next, 1, reply);
-    while (code == SAMVOLIP_E_CONTENDED && samvolip_rest());
-    return code;
-}
-
-WRITE(compare_exchange, (KEY, const uint64_t *expected, const uint64_t *next, samvolip_reply *reply), (map, key, expected, next, reply), exchange_at(seat, inner, expected, next, reply), code >= 0 && reply->matched && !(expected && next))
+WRITE(compare_exchange, (KEY, const uint64_t *expected, const uint64_t *next, samvolip_reply *reply), (map, key, expected, next, reply), samvolip_compare_exchange(seat, inner, expected, next, 1, reply), code < 0 || !reply->matched || !expected == !next ? STAYS : next ? COMES : GOES)
 
 int samvolip_map_update(samvolip_map *map, uint64_t key, samvolip_updater *updater, void *context, uint64_t *before)
 {
@@ -163,11 +156,9 @@ static samvolip_map *new_map(const samvolip_map_options *options)
     unsigned count = COMMON + options->threads;
     samvolip_map *map = aligned_alloc(_Alignof(samvolip_map), sizeof *map);
     lane *lanes = aligned_alloc(_Alignof(lane), count * sizeof *lanes);
-    struct thread *_Atomic *owners = calloc(count, sizeof *owners);
-    if (!map || !lanes || !owners) {
+    if (!map || !lanes) {
         free(map);
         free(lanes);
-        free((void *)owners);
         return NULL;
     }
     bool is_mixed = options->keys != SAMVOLIP_KEYS_AS_THEY_ARE;
@@ -176,7 +167,6 @@ static samvolip_map *new_map(const samvolip_map_options *options)
     map->id = atomic_fetch_add(&next_id, 1);
     map->cell = map->id % CELLS;
     map->lanes = lanes;
-    map->owners = owners;
     map->count = count;
     map->options = *options;
     map->mixes_below = is_mixed ? SAMVOLIP_KEY_MAX + 1 : 0;
@@ -197,7 +187,6 @@ static void free_map(samvolip_map *map)
     pthread_cond_destroy(&map->turned);
     pthread_mutex_destroy(&map->lock);
     free(map->lanes);
-    free((void *)map->owners);
     free(map);
 }
 

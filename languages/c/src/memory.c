@@ -2,7 +2,8 @@
    are without this file. Large ones, which the tables of large maps need, are the system's: in huge pages where Linux has some, and
    given back when they are freed. But of a size that is in use two freed blocks are kept for the next ones, up to KEPT: a map that is
    renewed takes its tables by turns, and need not wait for the system to clear pages. Blocks of a middling size, which the tables of a
-   map's parts are, lie several of a size in a tray, a large block, so that they are in huge pages, too. The linker puts these
+   map's parts are, lie several of a size in a tray, a large block, so that they are in huge pages, too. Two trays are kept until
+   somebody takes a block that is larger than they are. The linker puts these
    functions in place of those that the library's code calls (--wrap, by the file `links`).
 
    A large block begins at a multiple of a huge page, and one in a tray at one of a page. So nearly all pointers are told at a glance to
@@ -122,6 +123,41 @@ static void *new_pages(size_t size)
     return room + before;
 }
 
+static void give_kept_back(size_t size)
+{
+    struct large *large;
+    while ((large = take_kept(size)) != NULL)
+        give_back(large);
+}
+
+__attribute__((destructor)) static void end(void) { give_kept_back(TRAY); }
+
+/* A large block of whole pages, one that was kept where there is one; NULL where the system has none. Where the list is full it is
+   malloc's, of so many bytes. */
+static void *new_large(size_t whole, size_t size)
+{
+    if (whole > TRAY)
+        give_kept_back(TRAY);
+    const struct large *kept = whole <= KEPT ? take_kept(whole) : NULL;
+    void *block = kept ? (void *)kept->begin : new_pages(whole);
+    if (kept || block == NULL || is_listed(block, whole))
+        return block;
+    munmap(block, whole);
+    return __real_malloc(size);
+}
+
+/* Keeps a block that is free now, or gives it back. */
+static void free_large(struct large *large)
+{
+    size_t size = atomic_load(&large->size);
+    if (size <= KEPT && (size == TRAY || count_blocks(size, false) > 1) && count_blocks(size, true) < 2)
+        atomic_store(&large->kept, atomic_fetch_add(&ever_kept, 1) + 1);
+    else
+        give_back(large);
+    if (size != TRAY && count_blocks(size, false) == 0) /* nobody has such a block any more */
+        give_kept_back(size);
+}
+
 /* ---- trays --------------------------------------------------------------------------------- */
 
 /* The tray in which that is; NULL where it is in none. */
@@ -142,7 +178,7 @@ static void put_back(struct large *tray, uint64_t block)
     if (atomic_fetch_and(&tray->taken, ~block) != block)
         return;
     atomic_store(&tray->each, 0);
-    give_back(tray);
+    free_large(tray);
 }
 
 /* Takes a block of a tray; NULL where all are taken, or the tray isn't one of such blocks any more. */
@@ -164,16 +200,12 @@ static void *take_from(struct large *tray, size_t each)
 /* A block of a new tray. */
 static void *new_tray(size_t each)
 {
-    void *block = new_pages(TRAY);
-    if (block == NULL)
-        return NULL;
-    if (!is_listed(block, TRAY)) {
-        munmap(block, TRAY);
-        return NULL;
-    }
+    void *block = new_large(TRAY, each);
     struct large *tray = large_at(block);
-    atomic_store(&tray->taken, 1);
-    atomic_store(&tray->each, each);
+    if (tray != NULL) {
+        atomic_store(&tray->taken, 1);
+        atomic_store(&tray->each, each);
+    }
     return block;
 }
 
@@ -197,15 +229,7 @@ void *__wrap_malloc(size_t size)
         return size < MIDDLING ? __real_malloc(size) : middling(size);
     if (size > PTRDIFF_MAX - HUGE_PAGE)
         return NULL;
-    size_t whole = (size + PAGE - 1) / PAGE * PAGE;
-    const struct large *kept = whole <= KEPT ? take_kept(whole) : NULL;
-    void *block = kept ? (void *)kept->begin : new_pages(whole);
-    if (kept)
-        return block;
-    if (block == NULL || is_listed(block, whole))
-        return block;
-    munmap(block, whole);
-    return __real_malloc(size);
+    return new_large((size + PAGE - 1) / PAGE * PAGE, size);
 }
 
 void __wrap_free(void *block)
@@ -215,17 +239,10 @@ void __wrap_free(void *block)
         put_back(tray, (uint64_t)1 << ((uintptr_t)block - atomic_load(&tray->begin)) / atomic_load(&tray->each));
         return;
     }
-    if (large == NULL) {
-        __real_free(block);
-        return;
-    }
-    size_t size = atomic_load(&large->size);
-    if (size <= KEPT && count_blocks(size, false) > 1 && count_blocks(size, true) < 2)
-        atomic_store(&large->kept, atomic_fetch_add(&ever_kept, 1) + 1);
+    if (large != NULL)
+        free_large(large);
     else
-        give_back(large);
-    while (count_blocks(size, false) == 0 && (large = take_kept(size)) != NULL) /* nobody has such a block any more */
-        give_back(large);
+        __real_free(block);
 }
 
 /* What malloc gave stays with malloc, however much it grows. */

@@ -5,8 +5,8 @@
 
 enum { LEAST_LEFT = 16 };
 
-/* Why a part is renewed, if it is: it is two thirds full, or far too large; or it has no slot left, or somebody asks for it. */
-enum why { NOT_YET, CROWDED, SPARSE, FULL, ASKED };
+/* Why a part is renewed, if it is: it is two thirds full, or far too large; or it has few slots left, or none, or somebody asks for it. */
+enum why { NOT_YET, CROWDED, SPARSE, TIGHT, FULL, ASKED };
 
 /* An exchange of the cores of some parts. */
 typedef struct renewal {
@@ -18,16 +18,6 @@ typedef struct renewal {
 static atomic_ullong numbers; /* of the next core */
 
 /* ---- cores --------------------------------------------------------------------------------- */
-
-/* Reserves so many slots, unless these were more than the options say, beside all others that there are. */
-static bool reserve(samvolip_map *map, uint64_t slots)
-{
-    lock(map);
-    bool has_memory = map->options.memory == 0 || map->slots + slots <= map->options.memory / sizeof(samvolip_entry);
-    map->slots += has_memory ? slots : 0;
-    unlock(map);
-    return has_memory;
-}
 
 void free_core(core *one)
 {
@@ -74,11 +64,16 @@ static void drop(samvolip_map *map, core **cores, unsigned count)
             free_core(cores[i]);
 }
 
-/* Adds a core to come to those of a renewal. If it is refused memory, none is left of them. */
+/* Adds a core to come to those of a renewal. If it is refused memory, by the system or since the options allow no more slots beside all
+   others that there are, none is left of them. */
 static int add_core(samvolip_map *map, renewal *of, uint32_t exponent)
 {
-    int code = reserve(map, slots_of(exponent)) ? new_core(map, exponent, &of->cores[of->count]) : SAMVOLIP_E_OUT_OF_MEMORY;
-    if (code >= 0) {
+    int code = SAMVOLIP_E_OUT_OF_MEMORY;
+    lock(map);
+    bool is_allowed = map->options.memory == 0 || map->slots + slots_of(exponent) <= map->options.memory / sizeof(samvolip_entry);
+    map->slots += is_allowed ? slots_of(exponent) : 0;
+    unlock(map);
+    if (is_allowed && (code = new_core(map, exponent, &of->cores[of->count])) >= 0) {
         of->count++;
         return code;
     }
@@ -103,80 +98,6 @@ uint64_t keys_in(const samvolip_map *map, range places)
     for (unsigned i = 0; i < places.count; i++)
         keys += samvolip_size_estimate(&map->parts[places.first + i].core->seats[0]);
     return keys;
-}
-
-/* How many keys may come or go by one lane until it looks how full a part is again, of whose slots so many are taken. */
-static uint32_t left_for(const samvolip_map *map, uint64_t slots, uint64_t taken)
-{
-    unsigned writers = map->taken < map->count - COMMON ? map->taken : map->taken + SHARED; /* none shares while lanes are free */
-    uint64_t until = slots * 2 / 3, room = taken < until ? until - taken : slots / 16;
-    uint64_t left = room / (2 * writers + 1), least = slots / (64 * writers + 64);
-    return (uint32_t)greater(left < slots / 16 ? left : slots / 16, greater(least, slots / 512)) + LEAST_LEFT;
-}
-
-/* ---- the exchange -------------------------------------------------------------------------- */
-
-/* Alone, and writes wait: copies all entries to the cores to come. It is refused as full if these have too few slots. */
-static int copy(samvolip_map *map, renewal *of)
-{
-    job copying = {.from = of->from, .to = of->cores, .count = of->count};
-    uint64_t slots = 0;
-    for (unsigned i = 0; i < of->count; i++)
-        slots += slots_of(of->cores[i]->exponent);
-    if (keys_in(map, of->from) >= slots)
-        return SAMVOLIP_E_FULL;
-    share_out(map, &copying);
-    return copying.refused;
-}
-
-/* With the lock, and all calls in these parts at their end: the cores that were and those to come change places. */
-static void change_cores(samvolip_map *map, renewal *of)
-{
-    core *were[PARTS];
-    for (unsigned i = 0; i < of->from.count; i++) {
-        were[i] = map->parts[of->from.first + i].core;
-        map->parts[of->from.first + i].core = NULL;
-    }
-    for (unsigned i = 0; i < of->to.count; i++) {
-        part *one = &map->parts[of->to.first + i];
-        one->core = of->cores[i];
-        uint32_t left = left_for(map, slots_of(one->core->exponent), samvolip_size_estimate(&one->core->seats[0]));
-        for (unsigned lane = 0; lane < map->count; lane++)
-            map->lanes[lane].left[of->to.first + i] = left;
-    }
-    if (of->to.first != of->from.first)
-        map->is_divided = of->to.first > 0;
-    for (of->count = 0; of->count < of->from.count; of->count++)
-        of->cores[of->count] = were[of->count];
-}
-
-/* Alone with these parts: puts the cores to come in the place of those that there are, with all their entries; or without them, and
-   then `walk` begins over the old ones. Before the gates are closed the new cores are ready, and after they are open the old ones go. */
-static int exchange(samvolip_map *map, renewal *of, samvolip_map_walk *walk)
-{
-    int code = SAMVOLIP_OK;
-    uint64_t writes = stop(map, of->from, walk ? CLOSED : READS_ONLY), reads = writes;
-    if (!walk) {
-        code = copy(map, of);
-        reads = code >= 0 ? stop(map, of->from, CLOSED) : nanoseconds();
-    }
-    lock(map);
-    if (walk)
-        begin_walk(walk, map);
-    if (code >= 0)
-        change_cores(map, of);
-    go_on(map, code >= 0 ? of->to : of->from, writes, reads);
-    unlock(map);
-    drop(map, of->cores, of->count);
-    return code;
-}
-
-/* The same with cores of one size. */
-static int put_in_place(samvolip_map *map, range from, range to, uint32_t exponent, samvolip_map_walk *walk)
-{
-    renewal one = {.from = from, .to = to};
-    int code = add_cores(map, &one, exponent);
-    return code < 0 ? code : exchange(map, &one, walk);
 }
 
 /* ---- how large ----------------------------------------------------------------------------- */
@@ -223,13 +144,108 @@ static uint64_t slots_needed(const size *of, enum why why, uint64_t room)
     return why == ASKED ? greater(of->keys + 1, with_half(room ? room : of->room)) : with_half(of->keys);
 }
 
-/* Which size it should have. */
+/* Which size it should have. It is time when there are about 2/3 as many keys as slots: by 5/4, and not 3/2, 4 times as many don't become
+   8 times by rounding. A small map, and one that comes to be in parts, grows twice as fast, so that renewals come less often. */
 static uint32_t exponent_wanted(const samvolip_map *map, const size *of, enum why why, uint64_t room)
 {
-    bool is_fast = why != ASKED && !of->is_part && of->keys >= 1000 && of->keys < 12000; /* so that renewals come less often there */
-    uint64_t grown = of->keys * map->options.growth * (is_fast ? 2 : 1), slots = slots_needed(of, why, room);
-    /* it is time when there are about 2/3 as many keys as slots: by 5/4, and not 3/2, 4 times as many don't become 8 times by rounding */
-    return exponent_of(greater(greater(slots, with_half(greater(of->keys, of->room))), room ? 0 : grown + grown / 4));
+    uint64_t grown = of->keys * map->options.growth * 5 / 4;
+    bool is_fast = (of->keys >= 1000 && of->keys < 8000) || grown > slots_of(DIVIDED_FROM - 1);
+    grown *= is_fast && !of->is_part && why != ASKED ? 2 : 1;
+    return exponent_of(greater(greater(slots_needed(of, why, room), with_half(greater(of->keys, of->room))), room ? 0 : grown));
+}
+
+/* From so many slots on that are taken a part is to be renewed; and its writes wait for who does so, since they get slow. */
+static uint64_t crowded(uint64_t slots) { return slots * 2 / 3; }
+static uint64_t tight(uint64_t slots) { return slots * 7 / 8; }
+
+/* Fewer keys than these are too few for a part of so many slots. */
+static uint64_t least_keys(const samvolip_map *map, const part *in, uint64_t slots)
+{
+    uint64_t room = map->options.room / (place_of(map, in) > 0 ? PARTS : 1);
+    return slots > slots_of(exponent_for(room)) ? slots / (8 * map->options.growth) : 0;
+}
+
+/* Says when a lane looks how full a part is again, of whose slots so many are taken: after its share of the keys that may come before
+   the part is crowded, or if it is, tight; or of those that may go before it is sparse. It looks now and then in any case, since others
+   may have taken keys out. */
+static void count_anew(const samvolip_map *map, lane *one, const part *in, uint64_t taken, uint64_t keys)
+{
+    uint64_t slots = slots_of(in->core->exponent), least = least_keys(map, in, slots);
+    uint64_t most = taken < crowded(slots) ? crowded(slots) : tight(slots);
+    uint64_t writers = greater(1, map->taken < map->count - COMMON ? map->taken : map->taken + SHARED); /* none shares while lanes are free */
+    uint64_t at_least = LEAST_LEFT + slots / greater(512, 64 * writers);
+    uint32_t *left = one->left[place_of(map, in)];
+    uint64_t comes = taken < most ? (most - taken) / writers : slots / 64;
+    left[COMES] = (uint32_t)greater(at_least, comes < slots / 8 ? comes : slots / 8);
+    left[GOES] = least == 0 ? INT32_MAX : (uint32_t)greater(at_least, least < keys ? (keys - least) / writers : 0);
+}
+
+/* ---- the exchange -------------------------------------------------------------------------- */
+
+/* Alone, and writes wait: copies all entries to the cores to come. It is refused as full if these have too few slots. */
+static int copy(samvolip_map *map, renewal *of)
+{
+    job copying = {.from = of->from, .to = of->cores, .count = of->count};
+    uint64_t slots = 0;
+    for (unsigned i = 0; i < of->count; i++)
+        slots += slots_of(of->cores[i]->exponent);
+    if (keys_in(map, of->from) >= slots)
+        return SAMVOLIP_E_FULL;
+    share_out(map, &copying);
+    return copying.refused;
+}
+
+/* With the lock, and all calls in these parts at their end: the cores that were and those to come change places. */
+static void change_cores(samvolip_map *map, renewal *of)
+{
+    core *were[PARTS];
+    for (unsigned i = 0; i < of->from.count; i++) {
+        were[i] = map->parts[of->from.first + i].core;
+        map->parts[of->from.first + i].core = NULL;
+    }
+    for (unsigned i = 0; i < of->to.count; i++) {
+        part *one = &map->parts[of->to.first + i];
+        one->core = of->cores[i];
+        uint64_t keys = samvolip_size_estimate(&one->core->seats[0]);
+        for (lane *each = map->lanes; each < map->lanes + map->count; each++)
+            if (each->owner)
+                count_anew(map, each, one, keys, keys);
+            else
+                each->left[place_of(map, one)][COMES] = each->left[place_of(map, one)][GOES] = LEAST_LEFT; /* it may have no share yet */
+    }
+    if (of->to.first != of->from.first)
+        map->is_divided = of->to.first > 0;
+    for (of->count = 0; of->count < of->from.count; of->count++)
+        of->cores[of->count] = were[of->count];
+}
+
+/* Alone with these parts: puts the cores to come in the place of those that there are, with all their entries; or without them, and
+   then `walk` begins over the old ones. Before the gates are closed the new cores are ready, and after they are open the old ones go. */
+static int exchange(samvolip_map *map, renewal *of, samvolip_map_walk *walk)
+{
+    int code = SAMVOLIP_OK;
+    uint64_t writes = stop(map, of->from, walk ? CLOSED : READS_ONLY), reads = writes;
+    if (!walk) {
+        code = copy(map, of);
+        reads = code >= 0 ? stop(map, of->from, CLOSED) : nanoseconds();
+    }
+    lock(map);
+    if (walk)
+        begin_walk(walk, map);
+    if (code >= 0)
+        change_cores(map, of);
+    go_on(map, code >= 0 ? of->to : of->from, writes, reads);
+    unlock(map);
+    drop(map, of->cores, of->count);
+    return code;
+}
+
+/* The same with cores of one size. */
+static int put_in_place(samvolip_map *map, range from, range to, uint32_t exponent, samvolip_map_walk *walk)
+{
+    renewal one = {.from = from, .to = to};
+    int code = add_cores(map, &one, exponent);
+    return code < 0 ? code : exchange(map, &one, walk);
 }
 
 /* ---- renewals ------------------------------------------------------------------------------ */
@@ -321,52 +337,38 @@ static COLD enum why look_for_time(samvolip_map *map, part *in)
     samvolip_seat *seat = used_seat(map, in);
     samvolip_slots found;
     samvolip_occupancy(seat, &found);
-    uint64_t slots = slots_of(in->core->exponent), keys = samvolip_size_estimate(seat);
-    uint32_t least = exponent_for(map->options.room / (map->is_divided ? PARTS : 1));
-    bool is_crowded = UINT64_C(3) * found.taken > UINT64_C(2) * found.looked;
-    bool is_sparse = slots > slots_of(least) && keys * 8 * map->options.growth < slots;
-    used_lane(map)->left[place_of(map, in)] = left_for(map, slots, slots * found.taken / found.looked);
-    return is_crowded ? CROWDED : is_sparse ? SPARSE : NOT_YET;
+    uint64_t slots = slots_of(in->core->exponent), keys = samvolip_size_estimate(seat), taken = slots * found.taken / found.looked;
+    count_anew(map, used_lane(map), in, taken, keys);
+    if (taken > crowded(slots))
+        return taken > tight(slots) ? TIGHT : CROWDED;
+    return keys < least_keys(map, in, slots) ? SPARSE : NOT_YET;
 }
 
-/* With which places one has to be alone to renew this part: with all if that is the whole map, or if the map may be too small to be in
-   parts. */
-static place_set places_for(const samvolip_map *map, const part *in, enum why why)
-{
-    return !map->is_divided || why == SPARSE ? EVERYWHERE : set_of((range){place_of(map, in), 1});
-}
-
-/* Alone with these places: renews the part, or the whole map in place of all its parts. */
-static int renew_in(samvolip_map *map, const part *in, place_set alone_with, enum why why)
-{
-    range one = {place_of(map, in), 1};
-    if (alone_with == EVERYWHERE && one.first > 0) {
-        size all = size_of(map, parts_of(map));
-        if (why == SPARSE && exponent_wanted(map, &all, why, 0) < DIVIDED_FROM)
-            one = parts_of(map);
-    }
-    return renew(map, one, why, 0);
-}
-
-/* Inside: renews a part, unless somebody else did so since it had the core of this number. */
+/* Inside: renews a part, or if all parts are sparse the whole map, unless somebody else did so since it had the core of this number. */
 static int renew_once(samvolip_map *map, const part *in, uint64_t number, place_set places, enum why why)
 {
     if (!be_alone(map, places, in, number))
         return SAMVOLIP_OK;
-    int code = renew_in(map, in, places, why);
+    range from = {place_of(map, in), 1};
+    if (why == SPARSE && from.first > 0) {
+        size all = size_of(map, parts_of(map));
+        from = exponent_wanted(map, &all, why, 0) < DIVIDED_FROM ? parts_of(map) : from;
+    }
+    int code = renew(map, from, why, 0);
     end_alone(map, places);
     return code;
 }
 
-/* After a write that was full, or came when it was time: renews the part, unless somebody does. A write that was full is to be made
-   again then; it is refused if there is no memory, also none of what others have just reserved. */
+/* After a write that was full, or came when it was time: renews the part, unless somebody does; if few slots are left it waits for that.
+   It is alone with all parts if the map has one, or may be too small for several. A write that was full is to be made again then; it is
+   refused if there is no memory, also none of what others have just reserved. */
 static COLD int renew_after(samvolip_map *map, part *in, int code, enum why why)
 {
     uint64_t number = in->core->number; /* the core can't be exchanged before the lane rests */
-    place_set places = places_for(map, in, why);
+    place_set places = !map->is_divided || why == SPARSE ? EVERYWHERE : set_of((range){place_of(map, in), 1});
     int refused = SAMVOLIP_OK;
     rest_lane();
-    if (why == FULL || !(map->held & places)) {
+    if (why >= TIGHT || !(map->held & places)) {
         void *held = let_go(map);
         refused = renew_once(map, in, number, places, why);
         if (refused < 0 && why == FULL && places != EVERYWHERE)

@@ -4,24 +4,32 @@
 
 enum { SLOTS_A_WALK = 4096 }; /* that are looked at while the lock is held */
 
+/* With the lock: goes to a core. */
+static void turn_to(samvolip_map_walk *walk, unsigned core)
+{
+    walk->core = core;
+    walk->slot = 0;
+    samvolip_walk(&walk->cores[core]->reserve, &walk->cursor);
+}
+
 /* With the lock. */
 void begin_walk(samvolip_map_walk *walk, samvolip_map *map)
 {
     range parts = parts_of(map);
     walk->map = map;
     walk->cores_count = parts.count;
-    walk->core = 0;
-    walk->slot = walk->at = walk->count = 0;
+    walk->at = walk->count = 0;
     for (unsigned i = 0; i < parts.count; i++) {
         walk->cores[i] = map->parts[parts.first + i].core;
         walk->cores[i]->walks++;
     }
-    samvolip_walk(&walk->cores[0]->reserve, &walk->cursor);
+    turn_to(walk, 0);
 }
 
-/* Ends a walk; with the cores that are over, if no other walk has them. */
-static void end_walk(samvolip_map_walk *walk)
+/* Ends a walk, and frees its block, if it has one; and the cores that are over, if no other walk has them. */
+static void end_walk(samvolip_map_walk *walk, void *block)
 {
+    bool was_outside = go_inside();
     lock(walk->map);
     for (unsigned i = 0; i < walk->cores_count; i++)
         if (--walk->cores[i]->walks > 0 || !walk->cores[i]->is_over)
@@ -30,17 +38,9 @@ static void end_walk(samvolip_map_walk *walk)
     for (unsigned i = 0; i < walk->cores_count; i++)
         if (walk->cores[i])
             free_core(walk->cores[i]);
-}
-
-/* With the lock: goes to the next core, if there is one. */
-static bool turn_to_next(samvolip_map_walk *walk)
-{
-    if (walk->core + 1 == walk->cores_count)
-        return false;
-    walk->core++;
-    walk->slot = 0;
-    samvolip_walk(&walk->cores[walk->core]->reserve, &walk->cursor);
-    return true;
+    free(block);
+    if (was_outside)
+        go_outside();
 }
 
 /* Whether there are more entries: those of the next slots that have some. The lock isn't held for long. */
@@ -51,8 +51,10 @@ static bool walk_on(samvolip_map_walk *walk)
     while (count == 0 && goes_on) {
         core *in = walk->cores[walk->core];
         lock(walk->map);
-        if (walk->slot >= slots_of(in->exponent))
-            goes_on = turn_to_next(walk);
+        if (walk->slot >= slots_of(in->exponent) && walk->core + 1 < walk->cores_count)
+            turn_to(walk, walk->core + 1);
+        else if (walk->slot >= slots_of(in->exponent))
+            goes_on = false;
         else if (samvolip_list(&in->reserve, &walk->cursor, walk->slot + SLOTS_A_WALK, walk->some, WALKED, &count) == SAMVOLIP_ABSENT)
             walk->slot += SLOTS_A_WALK;
         unlock(walk->map);
@@ -96,25 +98,16 @@ int samvolip_map_walk_next(samvolip_map_walk *walk, uint64_t *key, uint64_t *num
     return code;
 }
 
-void samvolip_map_walk_end(samvolip_map_walk *walk)
-{
-    bool was_outside = go_inside();
-    end_walk(walk);
-    free(walk);
-    if (was_outside)
-        go_outside();
-}
+void samvolip_map_walk_end(samvolip_map_walk *walk) { end_walk(walk, walk); }
 
 /* Shows what is left of a walk, and ends it. */
-void show_all(samvolip_map_walk *walk, samvolip_map_visit *visit, void *context)
+int show_all(samvolip_map_walk *walk, samvolip_map_visit *visit, void *context)
 {
     uint64_t key, number;
     while (visit && samvolip_map_walk_next(walk, &key, &number) > 0)
         visit(context, key, number);
-    bool was_outside = go_inside();
-    end_walk(walk);
-    if (was_outside)
-        go_outside();
+    end_walk(walk, NULL);
+    return SAMVOLIP_OK;
 }
 
 int samvolip_map_each(samvolip_map *map, samvolip_map_visit *visit, void *context)
@@ -126,6 +119,5 @@ int samvolip_map_each(samvolip_map *map, samvolip_map_visit *visit, void *contex
     begin_walk(&walk, map);
     unlock(map);
     go_outside();
-    show_all(&walk, visit, context);
-    return SAMVOLIP_OK;
+    return show_all(&walk, visit, context);
 }

@@ -1,31 +1,12 @@
 /* whole.c - the calls of samvolip_map.h that are of a whole map. But for the estimate of its size, they are alone with it. */
 #include "endless.h"
 
-int samvolip_map_size(samvolip_map *map, uint64_t *size)
-{
-    if (!begin_alone(map))
-        return SAMVOLIP_E_NESTED;
-    range parts = parts_of(map);
-    uint64_t writes = stop(map, parts, READS_ONLY);
-    *size = keys_in(map, parts);
-    lock(map);
-    go_on(map, parts, writes, nanoseconds());
-    unlock(map);
-    return finish_alone(map, SAMVOLIP_OK);
-}
-
 /* Adds the keys of one part, by a call there; whether it could. */
 static bool add_keys(samvolip_map *map, unsigned share, uint64_t *sum)
 {
-    part *into = part_of(map, share);
-    samvolip_seat *seat = enter_at_once(map, into, READS);
-    if (UNLIKELY(!seat)) {
-        if (!go_inside())
-            return false;
-        into = enter_slowly(map, READS, share);
-        seat = used_seat(map, into);
-    }
-    *sum += samvolip_size_estimate(seat);
+    if (!go_inside())
+        return false;
+    *sum += samvolip_size_estimate(used_seat(map, enter_slowly(map, READS, share)));
     leave();
     return true;
 }
@@ -61,6 +42,16 @@ int samvolip_map_snapshot(samvolip_map *map, samvolip_entry *entries, size_t roo
     return finish_alone(map, code);
 }
 
+int samvolip_map_size(samvolip_map *map, uint64_t *size)
+{
+    size_t count;
+    int code = samvolip_map_snapshot(map, NULL, 0, &count);
+    if (code == SAMVOLIP_E_NESTED)
+        return code;
+    *size = count;
+    return SAMVOLIP_OK;
+}
+
 int samvolip_map_renew(samvolip_map *map, uint64_t room)
 {
     if (room > MOST_ROOM)
@@ -74,9 +65,7 @@ int samvolip_map_clear(samvolip_map *map, samvolip_map_visit *visit, void *conte
     if (!begin_alone(map))
         return SAMVOLIP_E_NESTED;
     int code = finish_alone(map, clear(map, &walk));
-    if (code >= 0)
-        show_all(&walk, visit, context);
-    return code;
+    return code < 0 ? code : show_all(&walk, visit, context);
 }
 
 int samvolip_map_look(samvolip_map *map, samvolip_map_figures *figures)

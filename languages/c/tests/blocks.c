@@ -161,28 +161,34 @@ static void kept_blocks(size_t size)
     EXPECT(IS_SANITIZED || expect_mebibytes().all < before - 4 * mebibytes + 1);
 }
 
-enum { SOME = 70 }; /* more than two trays have room for */
+enum { SOME = 100 }; /* more than two trays have room for */
 
-/* Those of a middling size lie beside each other, the lowest free one first, and their pages go with the last of them. */
+/* Those of a middling size lie beside each other, the lowest free one first, and their pages go with the last of them, but for two
+   trays, which are kept for the next ones, also of another size. */
 static void middling_blocks(size_t size)
 {
     static unsigned char *blocks[SOME];
-    const size_t each = (size + 4095) / 4096 * 4096, count = 8 * MIB / each;
+    const size_t each = (size + 4095) / 4096 * 4096, count = 8 * MIB / each, some = SOME / count * count;
+    for (size_t i = 0; i < 33; i++)
+        blocks[i] = taken(MIB / 4);
+    unsigned char *kept[] = {blocks[0], blocks[32]};
+    for (size_t i = 0; i < 33; i++)
+        free(blocks[i]);
     double before = expect_mebibytes().all;
-    for (size_t i = 0; i < SOME; i++) {
+    for (size_t i = 0; i < some; i++) {
         blocks[i] = taken(size);
         EXPECT(i % count == 0 ? is_large(blocks[i]) : blocks[i] == blocks[i - 1] + each);
-        EXPECT(is_all(blocks[i], 0, size));
+        EXPECT(i < 2 * count ? blocks[i] == kept[i / count] + i % count * each : is_all(blocks[i], 0, size));
         memset(blocks[i], (int)i + 1, size);
     }
-    for (size_t i = 0; i < SOME; i++)
+    for (size_t i = 0; i < some; i++)
         EXPECT(is_all(blocks[i], (int)i + 1, size));
-    free(blocks[5]);
-    free(blocks[3]);
-    EXPECT(taken(size) == blocks[3] && taken(size) == blocks[5] && is_all(blocks[5], 6, size));
-    memset(blocks[5] + 1, 0, size - 2);
-    EXPECT(blocks[5][0] == 6 && is_all(blocks[5] + 1, 0, size - 2) && blocks[5][size - 1] == 6);
-    for (size_t i = 0; i < SOME; i++)
+    free(blocks[2]);
+    free(blocks[1]);
+    EXPECT(taken(size) == blocks[1] && taken(size) == blocks[2] && is_all(blocks[2], 3, size));
+    memset(blocks[2] + 1, 0, size - 2);
+    EXPECT(blocks[2][0] == 3 && is_all(blocks[2] + 1, 0, size - 2) && blocks[2][size - 1] == 3);
+    for (size_t i = 0; i < some; i++)
         free(blocks[i]);
     EXPECT(IS_SANITIZED || expect_mebibytes().all < before + 1);
 }
@@ -192,7 +198,9 @@ static void blocks_that_are_too_large_to_keep(void)
 {
     unsigned char *one = taken(16 * MIB + 4096), *other = taken(16 * MIB + 4096);
     memset(one, 1, 16 * MIB);
+    double before = expect_mebibytes().all;
     free(one);
+    EXPECT(IS_SANITIZED || expect_mebibytes().all < before - 15);
     EXPECT(is_all(one = taken(16 * MIB + 4096), 0, 16 * MIB + 4096));
     free(one);
     free(other);
@@ -265,6 +273,7 @@ int main(int count, char **words)
     int turns = count > 1 ? atoi(words[1]) : 2000;
     mallopt(M_MMAP_THRESHOLD, 1 << 17); /* so that malloc's large blocks go back, too */
     in_threads(10);                     /* whose stacks stay */
+    free(taken(9 * MIB));               /* and no tray */
     double before = expect_mebibytes().all;
     new_blocks();
     cleared_blocks();
@@ -276,9 +285,12 @@ int main(int count, char **words)
     middling_blocks(MIB / 2 + 24);
     middling_blocks(MIB + 24);
     middling_blocks(2 * MIB - 1);
+    double with_trays = expect_mebibytes().all;
     blocks_that_are_too_large_to_keep();
+    EXPECT(IS_SANITIZED || expect_mebibytes().all < with_trays - 15);
     blocks_of_others();
     in_threads(turns);
+    free(taken(9 * MIB));
     EXPECT(expect_mebibytes().all < before + 1);
     printf("blocks: well\n");
     return 0;

@@ -547,7 +547,7 @@ static void a_map_is_as_large_as_its_keys_ask(void)
     samvolip_map_free(map);
 }
 
-/* From 1,000 to 12,000 keys it makes more room than the options say, and by hand it doesn't. */
+/* From 1,000 to 8,000 keys, and where it comes to be in parts, it makes more room than the options say, and by hand it doesn't. */
 static void a_map_of_few_keys_grows_faster(void)
 {
     samvolip_map *map = open_map(1000, 1, 0);
@@ -559,9 +559,11 @@ static void a_map_of_few_keys_grows_faster(void)
     EXPECT(IS_DIVIDED_EARLY || (figures_of(map).slots == 8192 && figures_of(more).slots == 16384)); /* parts grow one by one */
     EXPECT(samvolip_map_renew(map, 0) == SAMVOLIP_OK && samvolip_map_renew(more, 0) == SAMVOLIP_OK);
     EXPECT(figures_of(map).slots == 4096 && figures_of(more).slots == 8192);
-    for (uint64_t key = 1500; key < 40000; key++)
+    for (uint64_t key = 1500; key < 50000; key++) {
         EXPECT(samvolip_map_put(more, key, 0, NULL) == SAMVOLIP_ABSENT);
-    EXPECT(IS_DIVIDED_EARLY || figures_of(more).slots == 65536);
+        EXPECT(IS_DIVIDED_EARLY || key != 40000 || figures_of(more).slots == 65536);
+    }
+    EXPECT(IS_DIVIDED_EARLY || figures_of(more).slots == 524288);
     samvolip_map_free(map);
     samvolip_map_free(more);
 }
@@ -1161,7 +1163,7 @@ static void a_map_divides_and_joins_while_threads_write(void)
         tell("waves", map, 4);
         for (uint64_t key = 0; key < SHARED_KEYS; key++)
             EXPECT(samvolip_map_remove(map, key, NULL) == SAMVOLIP_PRESENT);
-        for (uint64_t key = 0; key < 20000; key++) /* so that each part is looked at */
+        for (uint64_t key = 0; key < 60000; key++) /* so that each part is looked at */
             EXPECT(samvolip_map_put(map, key, 0, NULL) == SAMVOLIP_ABSENT && samvolip_map_remove(map, key, NULL) == SAMVOLIP_PRESENT);
         EXPECT(figures_of(map).slots <= 64); /* less than if each part had the smallest table */
         samvolip_map_free(map);

@@ -105,19 +105,27 @@ static void has_its_own(samvolip_seat *seat)
     samvolip_free(&other);
 }
 
+/* How many MiB of addresses there are, without the trays that are kept until a large table is made. */
+static double without_trays(void)
+{
+    samvolip_seat large = opened(&shapes[2]);
+    samvolip_free(&large);
+    return expect_mebibytes().all;
+}
+
 /* Makes a call that takes the third shape, while the process may have so many MiB more, which are too few. It leaves no such table:
    what malloc keeps of a list of entries is less. */
 static void refused(int (*call)(samvolip_seat *, const samvolip_shape *), samvolip_seat *seat, unsigned room)
 {
     struct rlimit limit, before;
-    struct mebibytes memory = expect_mebibytes();
+    double all = without_trays();
     EXPECT(getrlimit(RLIMIT_AS, &before) == 0);
     limit = before;
-    limit.rlim_cur = ((rlim_t)memory.all + room) << 20;
+    limit.rlim_cur = ((rlim_t)all + room) << 20;
     EXPECT(setrlimit(RLIMIT_AS, &limit) == 0);
     int code = call(seat, &shapes[2]);
     EXPECT(setrlimit(RLIMIT_AS, &before) == 0);
-    EXPECT(code == SAMVOLIP_E_OUT_OF_MEMORY && expect_mebibytes().all < memory.all + 2);
+    EXPECT(code == SAMVOLIP_E_OUT_OF_MEMORY && without_trays() < all + 2);
 }
 
 static int open_empty(samvolip_seat *seat, const samvolip_shape *shape)

@@ -1,8 +1,9 @@
 // What a call takes beside other maps of C++: by one thread, and by four that call at once.
-//     beside [ROUNDS [CALLS]]      prints a line for each call and map: nanoseconds a call of one thread, and of one of the four
+//     beside [KEYS [ROUNDS [CALLS]]]      prints a line for each call and map: nanoseconds a call of one thread, with keys in order and in
+//                                         no order, and of one of four with keys in no order
 // oneTBB's concurrent_hash_map and Boost's concurrent_flat_map are measured where their headers are (-ltbb); std's unordered_map stands
-// behind a mutex, and for reads behind a shared_mutex, too. The keys are 10,000 numbers in no order. A figure is the best of the rounds,
-// which go by turns; a round goes from the first thread's beginning to the last one's end.
+// behind a mutex, and for reads behind a shared_mutex, too. The keys are the numbers below KEYS, by default 65,536. A figure is the best
+// of the rounds, which go by turns and go on through the keys; a round goes from the first thread's beginning to the last one's end.
 #include "samvolip.hpp"
 
 #include <algorithm>
@@ -26,7 +27,7 @@
 namespace {
 
 using number = std::uint64_t;
-constexpr number keys = 10000;
+number keys = 65536;
 
 struct ours {
     samvolip::map map;
@@ -99,22 +100,32 @@ struct of_boost {
 };
 #endif
 
+// Which keys a thread calls with: one after another, or by such steps that none is near the one before; each once before one comes again.
+struct stretch {
+    number from, calls, step;
+};
+constexpr number in_order = 1, in_no_order = 2654435761;
+
 // Makes so many calls. They aren't inlined into the loop over the rounds, and each map has its own.
 enum what { get, put, add };
-template <what What, class Map> [[gnu::noinline]] number call(Map &map, number from, number calls)
+template <what What, class Map> [[gnu::noinline]] number call(Map &map, const stretch &part)
 {
-    number sum = 0;
-    for (number i = from; i < from + calls; i++) {
-        const number key = i * 7919 % keys;
+    const number step = part.step % keys;
+    number sum = 0, key = part.from % keys * step % keys;
+    for (number i = 0; i < part.calls; i++) {
         if constexpr (What == get) sum += map.get(key);
         else if constexpr (What == put) map.put(key, i);
         else map.add(key);
+        key += step;
+        key -= key < keys ? 0 : keys;
     }
     return sum;
 }
 
+using calling = std::function<number(const stretch &)>;
+
 // Nanoseconds a call of one thread, of so many that begin together.
-double time_of(const std::function<number(number, number)> &work, unsigned threads, number calls)
+double time_of(const calling &work, unsigned threads, const stretch &first)
 {
     using clock = std::chrono::steady_clock;
     std::atomic<unsigned> arrived{0};
@@ -123,37 +134,60 @@ double time_of(const std::function<number(number, number)> &work, unsigned threa
     std::atomic<number> kept{0};
     for (unsigned t = 0; t < threads; t++)
         all.emplace_back([&, t] {
-            kept += work(0, keys); // the map is in the caches then
+            const stretch mine{first.from + t * keys / threads, first.calls, first.step};
+            kept += work({mine.from, std::min<number>(keys, 10000), mine.step}); // the code is in the caches then, and few keys
             for (arrived++; arrived < threads;) std::this_thread::yield();
             begun[t] = clock::now();
-            kept += work(t * calls, calls);
+            kept += work(mine);
             ended[t] = clock::now();
         });
     for (std::thread &thread : all) thread.join();
     const auto from = *std::min_element(begun.begin(), begun.end()), to = *std::max_element(ended.begin(), ended.end());
-    return std::chrono::duration<double, std::nano>(to - from).count() / double(calls);
+    return std::chrono::duration<double, std::nano>(to - from).count() / double(first.calls);
 }
+
+struct column {
+    const char *name;
+    unsigned threads;
+    number step;
+};
+constexpr column columns[] = {{"in order", 1, in_order}, {"in no order", 1, in_no_order}, {"4 threads", 4, in_no_order}};
 
 struct row {
     std::string name;
-    std::function<number(number, number)> work;
-    double best[2] = {1e9, 1e9};
+    calling calls;
+    double best[std::size(columns)] = {1e9, 1e9, 1e9};
 };
 
 template <class Map> void rows_of(std::vector<row> &rows, const char *name, Map &map)
 {
     for (number key = 0; key < keys; key++) map.put(key, key + 1);
-    rows.push_back({std::string("get, ") + name, [&](number from, number calls) { return call<get>(map, from, calls); }});
-    rows.push_back({std::string("put, ") + name, [&](number from, number calls) { return call<put>(map, from, calls); }});
-    rows.push_back({std::string("add, ") + name, [&](number from, number calls) { return call<add>(map, from, calls); }});
+    rows.push_back({std::string("get, ") + name, [&](const stretch &part) { return call<get>(map, part); }});
+    rows.push_back({std::string("put, ") + name, [&](const stretch &part) { return call<put>(map, part); }});
+    rows.push_back({std::string("add, ") + name, [&](const stretch &part) { return call<add>(map, part); }});
+}
+
+void print(const std::vector<row> &rows)
+{
+    std::printf("%-42s", "");
+    for (const column &column : columns) std::printf(" %12s", column.name);
+    std::printf("\n");
+    for (const char *what : {"get", "put", "add"})
+        for (const row &one : rows) {
+            if (one.name.compare(0, 3, what) != 0) continue;
+            std::printf("%-42s", one.name.c_str());
+            for (const double best : one.best) std::printf(" %12.1f", best);
+            std::printf("\n");
+        }
 }
 
 } // namespace
 
 int main(int count, char **words)
 {
-    const unsigned long rounds = count > 1 ? std::strtoul(words[1], nullptr, 10) : 150;
-    const number calls = count > 2 ? std::strtoul(words[2], nullptr, 10) : 20000;
+    if (count > 1) keys = std::max(1UL, std::strtoul(words[1], nullptr, 10));
+    const unsigned long rounds = count > 2 ? std::strtoul(words[2], nullptr, 10) : 60;
+    const number calls = count > 3 ? std::strtoul(words[3], nullptr, 10) : keys;
     std::vector<row> rows;
     ours secret(samvolip::keys::secret), plain(samvolip::keys::as_they_are);
     locked<std::mutex, std::lock_guard<std::mutex>> behind_mutex;
@@ -172,10 +206,8 @@ int main(int count, char **words)
     rows_of(rows, "std::unordered_map, a shared_mutex", behind_shared);
     for (unsigned long i = 0; i < rounds; i++)
         for (row &one : rows)
-            for (int many = 0; many < 2; many++) one.best[many] = std::min(one.best[many], time_of(one.work, many ? 4 : 1, calls));
-    std::printf("%-42s %9s %9s\n", "", "1 thread", "4 threads");
-    for (const char *what : {"get", "put", "add"})
-        for (const row &one : rows)
-            if (one.name.compare(0, 3, what) == 0) std::printf("%-42s %9.1f %9.1f\n", one.name.c_str(), one.best[0], one.best[1]);
+            for (std::size_t c = 0; c < std::size(columns); c++)
+                one.best[c] = std::min(one.best[c], time_of(one.calls, columns[c].threads, {i * calls, calls, columns[c].step}));
+    print(rows);
     return 0;
 }

@@ -8,18 +8,19 @@ import java.util.Map;
 import java.util.Random;
 import java.util.concurrent.ConcurrentHashMap;
 import java.util.function.LongUnaryOperator;
+import java.util.stream.LongStream;
 import samvolip.Keys;
 import samvolip.Options;
 import samvolip.SamvolipMap;
 
 /**
- * What a call takes, in nanoseconds, beside other maps: Cost [MILLISECONDS [TURNS]]. A line is a call of a map, with its keys in order and in
- * none: the best round of all, and the middle one. Each case runs in a virtual machine of its own, so that nothing is compiled for another
- * one's calls, warms up for so many milliseconds, and is measured for as many, by rounds of 1,000 of 10,000 keys. The cases go by turns.
- * JCTools' map is among them where it is in the class path.
+ * What a call takes, in nanoseconds, beside other maps: Cost [KEYS [MILLISECONDS [TURNS]]]. A line is a call of a map, with its keys in order
+ * and in none: the best round of all, and the middle one. Each case runs in a virtual machine of its own, so that nothing is compiled for
+ * another one's calls, warms up for so many milliseconds, and is measured for as many, by rounds of 1,000 of so many keys, 65,536 if nothing
+ * is said. The cases go by turns. JCTools' map is among them where it is in the class path.
  */
 public final class Cost {
-    private static final int KEYS = 10_000, ROUND = 1000;
+    private static final int ROUND = 1000;
     private static final List<String> MAPS =
         List.of("SamvolipMap", "the same by batches", "the same, keys as they are", "ConcurrentHashMap", "NonBlockingHashMapLong");
     private static final List<String> CALLS = List.of("get", "put", "add");
@@ -27,6 +28,7 @@ public final class Cost {
     private static volatile long kept;
     /** Which round it is: a put puts another number each time. */
     private static int round;
+    private static int keyCount = 65_536;
 
     /** A call with each of these keys. */
     private interface Work {
@@ -43,7 +45,7 @@ public final class Cost {
 
     private static Work ours(String call, Keys kind, boolean byBatches) {
         SamvolipMap map = new SamvolipMap(new Options().withKeys(kind));
-        for (long key = 0; key < KEYS; key++) map.put(key, key);
+        for (long key = 0; key < keyCount; key++) map.put(key, key);
         if (byBatches) {
             return keys -> {
                 if (call.equals("get")) return map.getMany(keys, 0)[0];
@@ -57,9 +59,18 @@ public final class Cost {
     }
 
     private static Work theirs(String call, Map<Long, Long> map) {
-        for (long key = 0; key < KEYS; key++) map.put(key, key);
+        for (long key = 0; key < keyCount; key++) map.put(key, key);
         if (call.equals("get")) return each(key -> map.getOrDefault(key, 0L));
         return call.equals("put") ? each(key -> map.put(key, (long) round)) : each(key -> map.merge(key, 1L, Long::sum));
+    }
+
+    private static void shuffle(long[] all, Random random) {
+        for (int i = all.length - 1; i > 0; i--) {
+            int j = random.nextInt(i + 1);
+            long key = all[i];
+            all[i] = all[j];
+            all[j] = key;
+        }
     }
 
     /** Prints the best and the middle round of a case. */
@@ -71,11 +82,10 @@ public final class Cost {
             case 3 -> theirs(call, new ConcurrentHashMap<>());
             default -> theirs(call, (Map<Long, Long>) Class.forName("org.jctools.maps.NonBlockingHashMapLong").getConstructor().newInstance());
         };
-        List<Long> places = new ArrayList<>();
-        for (long key = 0; key < KEYS; key++) places.add(key);
-        if (!inOrder) Collections.shuffle(places, new Random(7));
-        long[][] keys = new long[KEYS / ROUND][];
-        for (int i = 0; i < keys.length; i++) keys[i] = places.subList(i * ROUND, (i + 1) * ROUND).stream().mapToLong(key -> key).toArray();
+        long[] all = LongStream.range(0, keyCount).toArray();
+        if (!inOrder) shuffle(all, new Random(7));
+        long[][] keys = new long[keyCount / ROUND][];
+        for (int i = 0; i < keys.length; i++) keys[i] = Arrays.copyOfRange(all, i * ROUND, (i + 1) * ROUND);
         List<Double> rounds = new ArrayList<>();
         long begun = System.nanoTime(), warm = begun + milliseconds * 1_000_000, end = warm + milliseconds * 1_000_000;
         for (long now = begun; now < end || rounds.isEmpty(); round++) {
@@ -93,7 +103,7 @@ public final class Cost {
         List<String> words = new ArrayList<>(List.of(System.getProperty("java.home") + "/bin/java"));
         words.addAll(ManagementFactory.getRuntimeMXBean().getInputArguments());
         words.addAll(List.of("-cp", System.getProperty("java.class.path"), "Cost", "case"));
-        words.addAll(List.of(Integer.toString(map), call, Boolean.toString(inOrder), Long.toString(milliseconds)));
+        words.addAll(List.of(Integer.toString(map), call, Boolean.toString(inOrder), Long.toString(milliseconds), Integer.toString(keyCount)));
         Process process = new ProcessBuilder(words).redirectError(ProcessBuilder.Redirect.DISCARD).start();
         String[] told = new String(process.getInputStream().readAllBytes()).trim().split(" ");
         if (told.length != 2) throw new IOException("a case of " + MAPS.get(map) + " has failed");
@@ -110,12 +120,14 @@ public final class Cost {
     }
 
     public static void main(String[] words) throws IOException, ReflectiveOperationException {
-        if (words.length == 5) {
+        if (words.length == 6) {
+            keyCount = Integer.parseInt(words[5]);
             measure(Integer.parseInt(words[1]), words[2], Boolean.parseBoolean(words[3]), Long.parseLong(words[4]));
             return;
         }
-        long milliseconds = words.length > 0 ? Long.parseLong(words[0]) : 1000;
-        int turns = words.length > 1 ? Integer.parseInt(words[1]) : 3, maps = hasJCTools() ? 5 : 4;
+        if (words.length > 0) keyCount = Math.max(ROUND, Integer.parseInt(words[0]));
+        long milliseconds = words.length > 1 ? Long.parseLong(words[1]) : 1000;
+        int turns = words.length > 2 ? Integer.parseInt(words[2]) : 3, maps = hasJCTools() ? 5 : 4;
         double[][][] all = new double[CALLS.size() * maps * 2][turns][];
         for (int turn = 0; turn < turns; turn++) {
             for (int i = 0; i < all.length; i++) all[i][turn] = measured(i / 2 % maps, CALLS.get(i / 2 / maps), i % 2 == 0, milliseconds);

@@ -1,6 +1,6 @@
 package samvolip;
 
-/** A call was refused, and has changed nothing. */
+/** A call was refused. It has changed nothing, but a call of many keys may have made some of its changes. */
 public final class Refused extends RuntimeException {
     private static final long serialVersionUID = 1;
 

@@ -1,7 +1,8 @@
-"""Prints what calls cost beside those of a dict behind a lock, in microseconds, as docs/python.md tells: cost.py [CALLS]
+"""Prints what calls cost beside those of a dict behind a lock, in microseconds, as docs/python.md tells: cost.py [KEYS [CALLS]]
 
-A number is the time of a round, with that of its loop, divided by the calls of all threads; the best of seven rounds, which go by turns.
-First the processor's time of one thread; then the elapsed time of four threads, each with as many calls.
+A number is the time of a round, with that of its loop, divided by the calls of all threads; the best of seven rounds, which go by turns,
+each with other keys. First the processor's time of one thread, with keys in order and in no order; then the elapsed time of four threads,
+each with as many calls, with keys in no order.
 """
 
 import sys
@@ -13,9 +14,10 @@ from typing import Any
 
 from samvolip import Map
 
-CALLS = int(sys.argv[1]) if len(sys.argv) > 1 else 200_000
-KEYS = 10_000
+KEYS = int(sys.argv[1]) if len(sys.argv) > 1 else 65_536
+CALLS = int(sys.argv[2]) if len(sys.argv) > 2 else 200_000
 ROUNDS = 7
+IN_ORDER, IN_NO_ORDER = 1, 2_654_435_761  # the step from key to key: so each comes once before one comes again
 
 
 class Locked:
@@ -64,9 +66,8 @@ def sets(one, keys):
 
 
 def walks(one, keys):
-    for _ in range(len(keys) // KEYS):
-        for _ in one.items():
-            pass
+    for _, _ in zip(one.items(), keys):
+        pass
 
 
 def add_batches(one, keys):
@@ -103,32 +104,38 @@ def four_threads(work: Callable[[Any, Any], None], one: Any, keys: Any) -> float
     return (time.perf_counter() - begun) / 4
 
 
+def keys_of(turn: int, step: int) -> list[int]:
+    return [i * step % KEYS for i in range(turn * CALLS, (turn + 1) * CALLS)]
+
+
 def main() -> None:
-    keys = [i % KEYS for i in range(CALLS)]
-    words = array("Q", keys)
     m, locked = filled(Map()), filled(Locked())
-    rows: list[tuple[str, Callable[[Any, Any], None], Any, Any]] = [
-        ("get", gets, m, keys),
-        ("put", puts, m, keys),
-        ("add", adds, m, keys),
-        ("m[k]", subscripts, m, keys),
-        ("m[k] = n", sets, m, keys),
-        ("a pair of a loop", walks, m, keys),
-        ("get_many", get_batches, m, words),
-        ("put_many", put_batches, m, words),
-        ("add_many", add_batches, m, words),
-        ("a dict behind a lock: get", gets, locked, keys),
-        ("a dict behind a lock: put", puts, locked, keys),
-        ("a dict behind a lock: add", adds, locked, keys),
+    rows: list[tuple[str, Callable[[Any, Any], None], Any]] = [
+        ("get", gets, m),
+        ("put", puts, m),
+        ("add", adds, m),
+        ("m[k]", subscripts, m),
+        ("m[k] = n", sets, m),
+        ("a pair of a loop", walks, m),
+        ("get_many", get_batches, m),
+        ("put_many", put_batches, m),
+        ("add_many", add_batches, m),
+        ("a dict behind a lock: get", gets, locked),
+        ("a dict behind a lock: put", puts, locked),
+        ("a dict behind a lock: add", adds, locked),
     ]
-    print(f"{'':28}{'one thread':>12}{'four':>10}")
-    best = {name: [1e9, 1e9] for name, *_ in rows}
-    for _ in range(ROUNDS):
-        for name, work, one, given in rows:
-            for place, measure in enumerate((one_thread, four_threads)):
-                best[name][place] = min(best[name][place], measure(work, one, given))
+    best = {name: [1e9, 1e9, 1e9] for name, *_ in rows}
+    for turn in range(ROUNDS):
+        given: dict[int, Any] = {step: keys_of(turn, step) for step in (IN_ORDER, IN_NO_ORDER)}
+        words: dict[int, Any] = {step: array("Q", keys) for step, keys in given.items()}
+        for name, work, one in rows:
+            ways = ((one_thread, IN_ORDER), (one_thread, IN_NO_ORDER), (four_threads, IN_NO_ORDER))
+            for place, (measure, step) in enumerate(ways):
+                keys = (words if name.endswith("_many") else given)[step]
+                best[name][place] = min(best[name][place], measure(work, one, keys))
+    print(f"{'':28}{'in order':>12}{'in no order':>12}{'four':>10}")
     for name, times in best.items():
-        print(f"{name:28}{times[0] / CALLS * 1e6:12.3f}{times[1] / CALLS * 1e6:10.3f}")
+        print(f"{name:28}{times[0] / CALLS * 1e6:12.3f}{times[1] / CALLS * 1e6:12.3f}{times[2] / CALLS * 1e6:10.3f}")
 
 
 main()

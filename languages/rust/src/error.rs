@@ -3,7 +3,7 @@
 use crate::sys;
 use std::fmt;
 
-/// Why a call was refused. A refused call has changed nothing.
+/// Why a call was refused. A refused call has changed nothing, but a call of many keys may have made some of its changes.
 #[derive(Clone, Copy, Debug, PartialEq, Eq, Hash)]
 #[non_exhaustive]
 pub enum Error {
