@@ -3,22 +3,22 @@ use Rattle.std.proofs.Common.{◌≡◌, ◌≢◌, ◌∙◌, ◌+◌, ◌++◌
 use Rattle.std.specs.Prelude.{Err, None, Ok, OnOk, Option, Result, ⊤, is_ok, unwrap_or}
 use Rattle.std.proofs.lemmas.Option.{slice_get_within}
 use Rattle.atomic_table.specs.Table.{Me, rest}
-use Rattle.nb_core.specs.Log.{log_of}
+use Rattle.nb_core.specs.Log.{Entry, log_of}
 use Rattle.nb_core.specs.Plans.{Plan}
 use Rattle.nb_core.specs.declared.events.Event.{Event}
 use Rattle.nb_map.specs.Handles.{HandleOf}
 use Rattle.nb_map.specs.Logs.{log}
 use Rattle.nb_map.specs.Maps.{MapOf}
 use Rattle.nb_lasting.proofs.Calling.{taken-is}
-use Rattle.nb_lasting.proofs.Sharing.{Same, anew-log, current_here, decided, times_else, times_here, with-else, with-here, with_current}
+use Rattle.nb_lasting.proofs.Sharing.{Same, anew-log, current_here, decided, known-of, some-is, times_else, times_here, with-else, with-here, with_current}
 use Rattle.nb_lasting.specs.Epochs.{HasGoneOnBy}
 use Rattle.nb_lasting.specs.Closing.{HasGathered}
-use Rattle.nb_lasting.specs.Holding.{CanDeal, CanRenew, IsIdleGuest}
+use Rattle.nb_lasting.specs.Holding.{CanDeal, CanGive, CanRenew, IsIdleGuest}
 use Rattle.nb_map.specs.declared.faults.RenewFault.{RenewFault}
 use Rattle.nb_lasting.proofs.Renewed.{all-from, renewed-all}
 use Rattle.nb_lasting.specs.Gathered.{AreSingle, IsPartedAnew, IsSingle}
-use Rattle.nb_lasting.specs.Renewal.{AreAnew, AreHeld, AreRenewed, CanDealAnew, CanDealBelow, CanDealShaped, HoldsBelow, IsIdleToken, blanks, down}
-use Rattle.nb_lasting.specs.Shared.{EpochIn, Has, HasBegunAnew, HasDealt, HasTaken, Holds, HoldsAnew, IsCurrent, IsLane, IsOfGuest, FitsLanes, KnowsIn, all_knew, as_guest, given, given_anew, log_in, map_in, rest_outs, times_out}
+use Rattle.nb_lasting.specs.Renewal.{AreAnew, AreHeld, AreRenewed, CanComeHome, CanDealAnew, CanDealBelow, CanDealShaped, HoldsBelow, IsIdleToken, blanks, down}
+use Rattle.nb_lasting.specs.Shared.{EpochIn, Has, HasBegunAnew, HasDealt, HasGiven, HasTaken, Holds, HoldsAnew, IsCurrent, IsLane, IsOfGuest, FitsLanes, KnowsIn, all_knew, as_guest, given, given_anew, known_in, known_of, log_in, map_in, rest_outs, times_out}
 use Rattle.nb_lasting.specs.declared.shared.Out.{Out}
 use Rattle.nb_lasting.specs.declared.shared.LaneView.{LaneView}
 
@@ -129,6 +129,7 @@ gathered lane before after handles handle new holds taken found is = record {
     count = omega (arith, length-append handles (handle ∷ []), holds.held.count);
     each = each;
   };
+  mine = mine;
 }
   where
     knew : ℕ → List Event
@@ -139,6 +140,30 @@ gathered lane before after handles handle new holds taken found is = record {
 
     same : taken.handle ≡ handle
     same = taken-is lane before after taken (Some handle) handle found refl
+
+    seen-is : new.0.seen ≡ before.0.seen
+    seen-is = ap (λ (v : LaneView). v.seen) view ∙ taken.guest.1
+
+    guest-is : new.0.guest ≡ before.0.guest
+    guest-is = ap (λ (v : LaneView). v.guest) view ∙ taken.guest.0
+
+    mine :
+        (i : ℕ) → i < lane + 1 → new.0.guest ≡ Some i
+        → IsCurrent i new.0.seen (with_current holds.knew lane taken.knew i)
+    mine i less own = by (decided i lane)
+      where
+        by : Same i lane → IsCurrent i new.0.seen (with_current holds.knew lane taken.knew i)
+        by (inl (is-here, _)) =
+            subst (λ k. IsCurrent k new.0.seen (with_current holds.knew lane taken.knew k)) (sym is-here)
+            (subst (λ (l : List Event). IsCurrent lane new.0.seen l)
+            (sym (with-here holds.knew lane taken.knew))
+            (subst (λ (l : List Event). IsCurrent lane l taken.knew) (sym seen-is)
+            (taken.mine (sym guest-is ∙ own ∙ ap Some is-here))))
+        by (inr (other, _)) =
+            subst (λ (l : List Event). IsCurrent i new.0.seen l)
+            (sym (with-else holds.knew lane i taken.knew other))
+            (subst (λ (l : List Event). IsCurrent i l (holds.knew i)) (sym seen-is)
+            (holds.mine i (omega (arith, less, other)) (sym guest-is ∙ own)))
 
     Goal : ℕ → HandleOf → Type 0
     Goal i h = IsLane new.0.map i h × KnowsIn new.0.filled new.0.past h.seat
@@ -204,6 +229,7 @@ module _
     slots = holds.slots;
     begun = holds.begun;
     held = holds.held;
+    mine = λ i less own. absurd (omega (arith, less, some-is i lane (sym own ∙ idle.guest)));
   }
 
   taken-so : HasTaken lane (as_guest before.0 guest.0, before.1) after
@@ -271,42 +297,124 @@ module _
       ∙ (ap rest (ap (λ (m : Me (Option HandleOf) LaneView). m.1) is)
       ∙ (ap rest slots ∙ ap rest (blanks_more lane)))
 
-  pub can-deal : CanDealBelow (lane + 1) me before → CanDeal lane new
-  can-deal can =
-      let one = (popped lane me.0.map me.0.filled me.0.past can.know handles before handle popped-is
-      can.held).1 in
-      record {
-        knew = can.knew lane;
-        whole = can.know lane;
-        handle = handle;
-        holds = record {
-          outs = down can.knew lane;
-          view = outs-is can.knew can.outs;
+  module _ (knew know : ℕ → List Event) (outs : me.0.outs ≡ down knew (lane + 1))
+      (held : AreHeld me.0.map me.0.filled me.0.past (lane + 1) know before) where
+    knows-last : KnowsIn me.0.filled me.0.past handle.seat (know lane)
+    knows-last =
+        (popped lane me.0.map me.0.filled me.0.past know handles before handle popped-is held).1.1
+
+    holds-last : Holds lane (knew lane) (know lane) handle new
+    holds-last =
+        let one = (popped lane me.0.map me.0.filled me.0.past know handles before handle popped-is
+        held).1 in
+        record {
+          outs = down knew lane;
+          view = outs-is knew outs;
           slot = new-slot;
           one = subst (λ (v : LaneView). IsLane v.map lane handle) (sym new-view) one.0;
-          knows = subst (λ (v : LaneView). KnowsIn v.filled v.past handle.seat (can.know lane))
+          knows = subst (λ (v : LaneView). KnowsIn v.filled v.past handle.seat (know lane))
               (sym new-view) one.1;
-        };
-        current = can.current lane (omega arith);
-      }
+        }
+
+    -- the others, when the view has lost the last lane alone, or seen more
+    held-left : (seen : List Event) → after.0 ≡ given new.0 (rest_outs new.0.outs) seen
+        → AreHeld after.0.map after.0.filled after.0.past lane know handles
+    held-left seen gone =
+        subst (λ (m : MapOf). AreHeld m after.0.filled after.0.past lane know handles)
+        (sym (ap (λ (v : LaneView). v.map) gone ∙ ap (λ (v : LaneView). v.map) new-view))
+        (subst (λ (f : List Event). AreHeld me.0.map f after.0.past lane know handles)
+        (sym (ap (λ (v : LaneView). v.filled) gone ∙ ap (λ (v : LaneView). v.filled) new-view))
+        (subst (λ (l : List Event). AreHeld me.0.map me.0.filled l lane know handles)
+        (sym (ap (λ (v : LaneView). v.past) gone ∙ ap (λ (v : LaneView). v.past) new-view))
+        (popped lane me.0.map me.0.filled me.0.past know handles before handle popped-is held).0))
+
+    outs-left : (seen : List Event) → after.0 ≡ given new.0 (rest_outs new.0.outs) seen
+        → after.0.outs ≡ down knew lane
+    outs-left seen gone = ap (λ (v : LaneView). v.outs) gone ∙ ap rest_outs (outs-is knew outs)
+
+  pub can-deal : CanDealBelow (lane + 1) me before → CanDeal lane new
+  can-deal can = record {
+    knew = can.knew lane;
+    whole = can.know lane;
+    handle = handle;
+    holds = holds-last can.knew can.know can.outs can.held;
+    current = can.current lane (omega arith);
+  }
 
   pub dealt : CanDealBelow (lane + 1) me before → HasDealt new after → CanDealBelow lane after handles
-  dealt can gone =
-      let old = (popped lane me.0.map me.0.filled me.0.past can.know handles before handle popped-is
-      can.held).0 in
+  dealt can gone = record {
+    knew = can.knew;
+    know = can.know;
+    outs = outs-left can.knew can.know can.outs can.held new.0.seen gone.0;
+    slots = slots-left can.slots gone.1;
+    held = held-left can.knew can.know can.outs can.held new.0.seen gone.0;
+    current = λ i less. can.current i (omega (arith, less));
+  }
+
+  -- the guest's own handle, and another one, beside it
+  pub can-give-own :
+      (own : ℕ) (whole : List Entry) → CanComeHome own whole (lane + 1) me before → lane ≡ own
+      → CanGive lane new
+  can-give-own own whole can here = record {
+    knew = can.knew lane;
+    whole = can.know lane;
+    handle = handle;
+    holds = holds-last can.knew can.know can.outs can.held;
+    guest = ap (λ (v : LaneView). v.guest) new-view ∙ can.guest ∙ ap Some (sym here);
+  }
+
+  pub can-deal-else :
+      (own : ℕ) (whole : List Entry) → CanComeHome own whole (lane + 1) me before → lane ≢ own
+      → CanDeal lane new
+  can-deal-else own whole can other = record {
+    knew = can.knew lane;
+    whole = can.know lane;
+    handle = handle;
+    holds = holds-last can.knew can.know can.outs can.held;
+    current = can.current lane (omega arith) other;
+  }
+
+  pub come-own :
+      (own : ℕ) (whole : List Entry) → CanComeHome own whole (lane + 1) me before → lane ≡ own
+      → HasGiven new after → CanComeHome own whole lane after handles
+  come-own own whole can here gone =
+      let seen = known_in new.0 new.1 in
       record {
         knew = can.knew;
         know = can.know;
-        outs = ap (λ (v : LaneView). v.outs) gone.0 ∙ ap rest_outs (outs-is can.knew can.outs);
+        outs = outs-left can.knew can.know can.outs can.held seen gone.0;
         slots = slots-left can.slots gone.1;
-        held = subst (λ (m : MapOf). AreHeld m after.0.filled after.0.past lane can.know handles)
-            (sym (ap (λ (v : LaneView). v.map) gone.0 ∙ ap (λ (v : LaneView). v.map) new-view))
-            (subst (λ (f : List Event). AreHeld me.0.map f after.0.past lane can.know handles)
-            (sym (ap (λ (v : LaneView). v.filled) gone.0 ∙ ap (λ (v : LaneView). v.filled) new-view))
-            (subst (λ (l : List Event). AreHeld me.0.map me.0.filled l lane can.know handles)
-            (sym (ap (λ (v : LaneView). v.past) gone.0 ∙ ap (λ (v : LaneView). v.past) new-view)) old));
+        held = held-left can.knew can.know can.outs can.held seen gone.0;
         current = λ i less. can.current i (omega (arith, less));
+        guest = ap (λ (v : LaneView). v.guest) gone.0 ∙ ap (λ (v : LaneView). v.guest) new-view
+            ∙ can.guest;
+        due = λ less. absurd (omega (arith, less, here));
+        seen = λ _.
+            ap (λ (v : LaneView). log_of v.seen) gone.0
+            ∙ ap (λ (slots : List (ℕ × Option HandleOf)). log_of (known_in new.0 slots)) new-slot
+            ∙ ap (λ (v : LaneView). log_of (known_of v.filled v.past handle.seat)) new-view
+            ∙ (known-of me.0.filled me.0.past handle.seat (can.know lane)
+            (knows-last can.knew can.know can.outs can.held)).0
+            ∙ ap (λ k. log_of (can.know k)) here ∙ can.due (omega (arith, here));
       }
+
+  pub come-else :
+      (own : ℕ) (whole : List Entry) → CanComeHome own whole (lane + 1) me before → lane ≢ own
+      → HasDealt new after → CanComeHome own whole lane after handles
+  come-else own whole can other gone = record {
+    knew = can.knew;
+    know = can.know;
+    outs = outs-left can.knew can.know can.outs can.held new.0.seen gone.0;
+    slots = slots-left can.slots gone.1;
+    held = held-left can.knew can.know can.outs can.held new.0.seen gone.0;
+    current = λ i less. can.current i (omega (arith, less));
+    guest = ap (λ (v : LaneView). v.guest) gone.0 ∙ ap (λ (v : LaneView). v.guest) new-view
+        ∙ can.guest;
+    due = λ less. can.due (omega (arith, less));
+    seen = λ more.
+        ap (λ (v : LaneView). log_of v.seen) gone.0 ∙ ap (λ (v : LaneView). log_of v.seen) new-view
+        ∙ can.seen (omega (arith, more, other));
+  }
 
   pub can-renew :
       (p : Plan) → lane + 1 ≡ p.seats → CanDealAnew (lane + 1) me before → CanRenew p lane new
@@ -396,6 +504,7 @@ holds-none me handles none idle = record {
     count = ap length none;
     each = λ i h at. absurd (omega (arith, slice_get_within handles i h at, ap length none));
   };
+  mine = λ i less own. absurd (omega (arith, less));
 }
 
 -- handles that have called nothing can be dealt

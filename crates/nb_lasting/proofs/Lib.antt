@@ -8,6 +8,7 @@ pub mod Visiting
 pub mod Renewed
 pub mod Dealt
 pub mod Calling
+pub mod Counted
 pub mod Logged
 pub mod Sizes
 pub mod Theorems

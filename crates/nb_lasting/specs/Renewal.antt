@@ -1,7 +1,7 @@
 -- What a renewer holds: the handles of the lanes below a number, and of all lanes at last.
-use Rattle.std.specs.Prelude.{◌≡◌, ◌<◌, ℕ, zero, suc, All, List, [], ◌∷◌, Option, Some, None, IfErr, IfOk, Result, ⊤, length, slice_get}
+use Rattle.std.specs.Prelude.{◌≡◌, ◌≢◌, ◌<◌, ◌≤◌, ℕ, zero, suc, All, List, [], ◌∷◌, Option, Some, None, IfErr, IfOk, Result, ⊤, length, slice_get}
 use Rattle.atomic_table.specs.Table.{Me}
-use Rattle.nb_core.specs.Log.{log_of}
+use Rattle.nb_core.specs.Log.{Entry, log_of}
 use Rattle.nb_core.specs.Plans.{Plan}
 use Rattle.nb_core.specs.declared.events.Event.{Event}
 use Rattle.nb_map.specs.Handles.{HandleOf}
@@ -46,6 +46,13 @@ pub record AreAsBefore (m : MapOf) (filled past : List Event) (n : ℕ) (knew : 
   pub held : AreHeld m filled past n know handles
   pub current : (i : ℕ) → i < n → IsCurrent i (knew i) (know i)
 
+-- They are of the map that they were of, and have called nothing.
+pub record AreStill (m : MapOf) (filled past : List Event) (n : ℕ) (knew : ℕ → List Event)
+    (handles : List HandleOf) : Type 0 where
+  pub know : ℕ → List Event
+  pub held : AreHeld m filled past n know handles
+  pub gone : (i : ℕ) → i < n → HasGoneOnBy i (log_of (knew i)) (log_of (know i)) []
+
 -- what a renewal makes of all handles
 abbrev pub AreRenewed :
     Plan → MapOf → (filled past : List Event) → (ℕ → List Event) → (after : List HandleOf)
@@ -65,6 +72,8 @@ pub record HoldsBelow (n : ℕ) (me : Me (Option HandleOf) LaneView) (handles : 
   pub slots : me.1 ≡ blanks n
   pub begun : 0 < n → (me.0.filled ≡ epoch.filled) × (me.0.past ≡ epoch.past)
   pub held : AreHeld me.0.map me.0.filled me.0.past n knew handles
+  -- where it is the guest of one of them, what it has seen goes on to what that handle knew
+  pub mine : (i : ℕ) → i < n → me.0.guest ≡ Some i → IsCurrent i me.0.seen (knew i)
 
 -- It has them still, and they have called nothing but reads since.
 pub record CanDealBelow (n : ℕ) (me : Me (Option HandleOf) LaneView) (handles : List HandleOf) :
@@ -75,6 +84,20 @@ pub record CanDealBelow (n : ℕ) (me : Me (Option HandleOf) LaneView) (handles 
   pub slots : me.1 ≡ blanks n
   pub held : AreHeld me.0.map me.0.filled me.0.past n know handles
   pub current : (i : ℕ) → i < n → IsCurrent i (knew i) (know i)
+
+-- It has them still. The other guests' have called nothing but reads since; its guest's own one
+-- knows this log, which the guest has seen once that one is back.
+pub record CanComeHome (own : ℕ) (whole : List Entry) (n : ℕ) (me : Me (Option HandleOf) LaneView)
+    (handles : List HandleOf) : Type 0 where
+  pub knew : ℕ → List Event
+  pub know : ℕ → List Event
+  pub outs : me.0.outs ≡ down knew n
+  pub slots : me.1 ≡ blanks n
+  pub held : AreHeld me.0.map me.0.filled me.0.past n know handles
+  pub current : (i : ℕ) → i < n → i ≢ own → IsCurrent i (knew i) (know i)
+  pub guest : me.0.guest ≡ Some own
+  pub due : own < n → log_of (know own) ≡ whole
+  pub seen : n ≤ own → log_of me.0.seen ≡ whole
 
 -- It has those of all lanes, and they are of a new map.
 pub record CanDealAnew (n : ℕ) (me : Me (Option HandleOf) LaneView) (handles : List HandleOf) :

@@ -1,7 +1,8 @@
 //! A guest of a map without an end.
-ghost use Rattle.std.specs.Prelude.{IfErr, IfOk, [], ◌≡◌};
+ghost use Rattle.std.specs.FinMap as numbers;
+ghost use Rattle.std.specs.Prelude.{IfErr, IfOk, [], length, ◌≡◌};
 ghost use Rattle.nb_core.specs.Calls.{Fills};
-ghost use Rattle.nb_core.specs.Log.{log_of, reply_at};
+ghost use Rattle.nb_core.specs.Log.{log_of, map_of_log, reply_at};
 ghost use Rattle.nb_core.specs.declared.calls.Call.TheVariants as call;
 ghost use Rattle.nb_map.specs.NamedCalls.{add_of, put_if_absent_of, put_of, remove_if_of, remove_of, replace_if_of, replace_of};
 ghost use Rattle.nb_lasting.specs.Guests.{GuestHasCalled, GuestHasFound, GuestHasMatched, GuestHasReplied, GuestIsRefused};
@@ -9,13 +10,14 @@ ghost use Rattle.nb_lasting.specs.Holding.{IsIdleGuest};
 ghost use Rattle.nb_lasting.specs.Lasting.{as_write_fault};
 ghost use Rattle.nb_lasting.specs.inside.Guests.{HasMadeOrNone, HasWrittenHere, NeverOverflows};
 
+use crate::counting::count_through;
 use crate::faults::{GrowFault, WriteFault};
 use crate::hall::Hall;
 use crate::renewing::renew_through;
 use crate::shapes::shape_for;
 use crate::shared::Token;
 use crate::through::{crowded_through, get_through, size_through, write_through};
-use nb_core::{Change, Key, MOST_KEYS, Num, Reply, Want};
+use nb_core::{Change, Key, MOST_KEYS, Num, OutOfMemory, Reply, Want};
 use nb_map::{PutFault, RenewFault};
 use std::alloc::Global;
 use std::marker::Model;
@@ -143,6 +145,21 @@ impl Guest {
             want,
             change,
         )
+    }
+
+    /// How many keys the map has, exactly, at one moment while others call. It waits for each guest's
+    /// call, as a renewal does, and takes memory for some vectors of as many handles as there are guests.
+    pub fn size<R: Wait>(&mut self, rt: &R) -> Result<u64, OutOfMemory>
+        ensures called { GuestHasCalled self.old self.new [] }
+        ensures size { IfOk result (λ size. size ≡ length (numbers.entries (map_of_log self.new.log))) }
+    {
+        count_through(rt, &self.hall, &mut self.token, self.lane)
+    }
+
+    /// How often the map was made anew so far, by any guest. No clause says so: no contract can tell what
+    /// a number holds that threads share beside the map.
+    pub fn renewals(&self) -> u64 {
+        self.hall.renewals.load(Ordering::SeqCst)
     }
 
     /// About how many keys the map has.

@@ -1,11 +1,13 @@
 //! The map is made anew while threads call: who does it takes all lanes' handles as they come home.
-ghost use Rattle.std.specs.Prelude.{IfOk, Ok, OnErr, OnOk, ◌+◌, ◌*◌, ◌<◌, ◌≤◌, ◌≡◌, false, length, true, vec_capacity};
-ghost use Rattle.nb_lasting.specs.Renewal.{CanDealAnew, CanDealBelow, HoldsBelow, IsIdleToken, IsSameGuest};
+ghost use Rattle.std.specs.Prelude.{IfOk, List, Ok, OnErr, OnOk, ◌+◌, ◌*◌, ◌<◌, ◌≤◌, ◌≡◌, false, length, true, vec_capacity};
+ghost use Rattle.nb_core.specs.Log.{Entry, log_of};
+ghost use Rattle.nb_lasting.specs.Holding.{IsIdleGuest};
+ghost use Rattle.nb_lasting.specs.Renewal.{CanComeHome, CanDealAnew, CanDealBelow, HoldsBelow, IsIdleToken, IsSameGuest};
 ghost use Rattle.nb_lasting.specs.Shared.{FitsLanes};
 
 use crate::gathered::parted_anew;
 use crate::hall::Hall;
-use crate::shared::{Row, Token, give_anew, give_back, hold};
+use crate::shared::{Row, Token, give, give_anew, give_back, hold};
 use nb_core::{OutOfMemory, Shape};
 use nb_map::{Handle, RenewFault};
 use std::alloc::Global;
@@ -73,7 +75,7 @@ fn deal_anew(row: &Row, token: &mut Token, handles: &mut Vec<Handle>, lane: usiz
 }
 
 /// Takes the handles of all lanes.
-fn gather_all<R: Wait>(
+pub(crate) fn gather_all<R: Wait>(
     rt: &R,
     row: &Row,
     token: &mut Token,
@@ -115,6 +117,52 @@ fn deal_all(row: &Row, token: &mut Token, handles: Vec<Handle>)
     let count = handles.len();
     for done in 0..count {
         deal(row, token, &mut handles, count - 1 - done);
+    }
+}
+
+/// Puts the last handle back into its slot. By the guest's own one, that has seen what it knows.
+fn come_home(row: &Row, token: &mut Token, handles: &mut Vec<Handle>, lane: usize, own: usize)
+    requires table { token.old.table_id ≡ row.now.table_id }
+    requires lane { lane < row.now.key.seats }
+    requires words { row.now.table_id.words ≡ 8 * row.now.key.seats }
+    requires few { row.now.key.seats ≤ 256 }
+    requires holds { (whole : List Entry)
+        × CanComeHome own whole (lane + 1) token.old.me handles.old.items }
+    ensures table { token.new.table_id ≡ token.old.table_id }
+    ensures holds { (whole : List Entry)
+        → CanComeHome own whole (lane + 1) token.old.me handles.old.items
+        → CanComeHome own whole lane token.new.me handles.new.items }
+{
+    let Some(handle) = handles.pop() else {
+        unreachable!();
+    };
+    row.exchange(token, lane, Some(handle));
+    if lane == own {
+        give(row, token, lane);
+    } else {
+        give_back(row, token, lane);
+    }
+}
+
+/// Puts the handles of all lanes back. By its own one, the guest has seen what that knows.
+pub(crate) fn all_home(row: &Row, token: &mut Token, handles: Vec<Handle>, own: usize)
+    requires table { token.old.table_id ≡ row.now.table_id }
+    requires lanes { length handles.items ≤ row.now.key.seats }
+    requires own { own < length handles.items }
+    requires words { row.now.table_id.words ≡ 8 * row.now.key.seats }
+    requires few { row.now.key.seats ≤ 256 }
+    requires holds { (whole : List Entry)
+        × CanComeHome own whole (length handles.items) token.old.me handles.items }
+    ensures table { token.new.table_id ≡ token.old.table_id }
+    ensures idle { IsIdleGuest own token.new.me }
+    ensures seen { (whole : List Entry)
+        → CanComeHome own whole (length handles.items) token.old.me handles.items
+        → log_of token.new.me.0.seen ≡ whole }
+{
+    let mut handles = handles;
+    let count = handles.len();
+    for done in 0..count {
+        come_home(row, token, &mut handles, count - 1 - done, own);
     }
 }
 
@@ -164,8 +212,9 @@ fn renew_all<R: Wait>(
     ensures anew { OnOk result (token.new.me.0.map.chain.shape ≡ shape) }
 {
     let (handles, renewed) = parted_anew(rt, hall.alloc, handles, shape);
-    hall.renewals.fetch_add(1, Ordering::SeqCst);
-    deal_renewed(&hall.table.shared, token, handles, renewed.is_ok());
+    let made = renewed.is_ok();
+    hall.renewals.fetch_add(u64::from(made), Ordering::SeqCst);
+    deal_renewed(&hall.table.shared, token, handles, made);
     renewed
 }
 

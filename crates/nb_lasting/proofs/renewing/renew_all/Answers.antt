@@ -25,8 +25,8 @@ deal_renewed-requires g c =
       some = c.args.hall.now.some;
       words = c.args.hall.now.words;
       few = c.args.hall.now.few;
-      anew = λ good. (done.1 (sym c.is_ok.ensures.value ∙ good)).0;
-      as_before = λ bad. done.2 (sym c.is_ok.ensures.value ∙ bad);
+      anew = λ good. (done.1 (sym c.is_ok-made.ensures.value ∙ good)).0;
+      as_before = λ bad. done.2 (sym c.is_ok-made.ensures.value ∙ bad);
     }
 
 pub returns-clause-anew : goal.returns-clause-anew
@@ -39,5 +39,5 @@ returns-clause-anew g c =
     on_ok c.parted_anew-handles.result.1 (λ good.
     let shaped = done.1 good in
     ap (λ (m : MapOf). m.chain.shape)
-    (c.deal_renewed.ensures.map (c.is_ok.ensures.value ∙ good) shaped.0)
+    (c.deal_renewed.ensures.map (c.is_ok-made.ensures.value ∙ good) shaped.0)
     ∙ shaped.1)
