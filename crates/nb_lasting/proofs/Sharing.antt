@@ -156,7 +156,7 @@ there (x ∷ hs) (suc i) e = omega (arith, there hs i e)
 -- ---- logs
 
 -- what is current is so still after reads
-current_more :
+pub current_more :
     (i : ℕ) (seen middle last : List Event) → IsCurrent i seen middle → IsCurrent i middle last
     → IsCurrent i seen last
 current_more i seen middle last one two = record {
