@@ -3,22 +3,23 @@ use Rattle.std.proofs.Common.{◌≡◌, ◌≢◌, ◌∙◌, ◌+◌, ◌++◌
 use Rattle.std.specs.Prelude.{Err, None, Ok, OnOk, Option, Result, ⊤, is_ok, unwrap_or}
 use Rattle.std.proofs.lemmas.Option.{slice_get_within}
 use Rattle.atomic_table.specs.Table.{Me, rest}
-use Rattle.nb_core.specs.Log.{log_of}
+use Rattle.nb_core.specs.Log.{Entry, log_of}
 use Rattle.nb_core.specs.Plans.{Plan}
 use Rattle.nb_core.specs.declared.events.Event.{Event}
 use Rattle.nb_map.specs.Handles.{HandleOf}
 use Rattle.nb_map.specs.Logs.{log}
 use Rattle.nb_map.specs.Maps.{MapOf}
 use Rattle.nb_lasting.proofs.Calling.{taken-is}
-use Rattle.nb_lasting.proofs.Sharing.{Same, anew-log, current_here, decided, times_else, times_here, with-else, with-here, with_current}
+use Rattle.nb_lasting.proofs.Sharing.{Same, anew-log, current_gone, current_here, current_more, decided, known-of, some-is, times_else, times_here, with-else, with-here, with_current}
+use Rattle.nb_lasting.proofs.Epochs.{goes_on}
 use Rattle.nb_lasting.specs.Epochs.{HasGoneOnBy}
 use Rattle.nb_lasting.specs.Closing.{HasGathered}
-use Rattle.nb_lasting.specs.Holding.{CanDeal, CanRenew, IsIdleGuest}
+use Rattle.nb_lasting.specs.Holding.{CanDeal, CanGive, CanRenew, IsIdleGuest}
 use Rattle.nb_map.specs.declared.faults.RenewFault.{RenewFault}
 use Rattle.nb_lasting.proofs.Renewed.{all-from, renewed-all}
 use Rattle.nb_lasting.specs.Gathered.{AreSingle, IsPartedAnew, IsSingle}
-use Rattle.nb_lasting.specs.Renewal.{AreAnew, AreHeld, AreRenewed, CanDealAnew, CanDealBelow, CanDealShaped, HoldsBelow, IsIdleToken, blanks, down}
-use Rattle.nb_lasting.specs.Shared.{EpochIn, Has, HasBegunAnew, HasDealt, HasTaken, Holds, HoldsAnew, IsCurrent, IsLane, IsOfGuest, FitsLanes, KnowsIn, all_knew, as_guest, given, given_anew, log_in, map_in, rest_outs, times_out}
+use Rattle.nb_lasting.specs.Renewal.{AreAnew, AreHeld, AreRenewed, CanComeHome, CanDealAnew, CanDealBelow, CanDealShaped, HoldsBelow, HoldsStill, IsIdleToken, blanks, down}
+use Rattle.nb_lasting.specs.Shared.{EpochIn, Has, HasBegunAnew, HasDealt, HasGiven, HasTaken, Holds, HoldsAnew, IsCurrent, IsLane, IsOfGuest, FitsLanes, KnowsIn, all_knew, as_guest, given, given_anew, known_in, known_of, log_in, map_in, rest_outs, times_out}
 use Rattle.nb_lasting.specs.declared.shared.Out.{Out}
 use Rattle.nb_lasting.specs.declared.shared.LaneView.{LaneView}
 
@@ -129,6 +130,7 @@ gathered lane before after handles handle new holds taken found is = record {
     count = omega (arith, length-append handles (handle ∷ []), holds.held.count);
     each = each;
   };
+  mine = mine;
 }
   where
     knew : ℕ → List Event
@@ -139,6 +141,30 @@ gathered lane before after handles handle new holds taken found is = record {
 
     same : taken.handle ≡ handle
     same = taken-is lane before after taken (Some handle) handle found refl
+
+    seen-is : new.0.seen ≡ before.0.seen
+    seen-is = ap (λ (v : LaneView). v.seen) view ∙ taken.guest.1
+
+    guest-is : new.0.guest ≡ before.0.guest
+    guest-is = ap (λ (v : LaneView). v.guest) view ∙ taken.guest.0
+
+    mine :
+        (i : ℕ) → i < lane + 1 → new.0.guest ≡ Some i
+        → IsCurrent i new.0.seen (with_current holds.knew lane taken.knew i)
+    mine i less own = by (decided i lane)
+      where
+        by : Same i lane → IsCurrent i new.0.seen (with_current holds.knew lane taken.knew i)
+        by (inl (is-here, _)) =
+            subst (λ k. IsCurrent k new.0.seen (with_current holds.knew lane taken.knew k)) (sym is-here)
+            (subst (λ (l : List Event). IsCurrent lane new.0.seen l)
+            (sym (with-here holds.knew lane taken.knew))
+            (subst (λ (l : List Event). IsCurrent lane l taken.knew) (sym seen-is)
+            (taken.mine (sym guest-is ∙ own ∙ ap Some is-here))))
+        by (inr (other, _)) =
+            subst (λ (l : List Event). IsCurrent i new.0.seen l)
+            (sym (with-else holds.knew lane i taken.knew other))
+            (subst (λ (l : List Event). IsCurrent i l (holds.knew i)) (sym seen-is)
+            (holds.mine i (omega (arith, less, other)) (sym guest-is ∙ own)))
 
     Goal : ℕ → HandleOf → Type 0
     Goal i h = IsLane new.0.map i h × KnowsIn new.0.filled new.0.past h.seat
@@ -204,6 +230,7 @@ module _
     slots = holds.slots;
     begun = holds.begun;
     held = holds.held;
+    mine = λ i less own. absurd (omega (arith, less, some-is i lane (sym own ∙ idle.guest)));
   }
 
   taken-so : HasTaken lane (as_guest before.0 guest.0, before.1) after
@@ -271,42 +298,124 @@ module _
       ∙ (ap rest (ap (λ (m : Me (Option HandleOf) LaneView). m.1) is)
       ∙ (ap rest slots ∙ ap rest (blanks_more lane)))
 
-  pub can-deal : CanDealBelow (lane + 1) me before → CanDeal lane new
-  can-deal can =
-      let one = (popped lane me.0.map me.0.filled me.0.past can.know handles before handle popped-is
-      can.held).1 in
-      record {
-        knew = can.knew lane;
-        whole = can.know lane;
-        handle = handle;
-        holds = record {
-          outs = down can.knew lane;
-          view = outs-is can.knew can.outs;
+  module _ (knew know : ℕ → List Event) (outs : me.0.outs ≡ down knew (lane + 1))
+      (held : AreHeld me.0.map me.0.filled me.0.past (lane + 1) know before) where
+    knows-last : KnowsIn me.0.filled me.0.past handle.seat (know lane)
+    knows-last =
+        (popped lane me.0.map me.0.filled me.0.past know handles before handle popped-is held).1.1
+
+    holds-last : Holds lane (knew lane) (know lane) handle new
+    holds-last =
+        let one = (popped lane me.0.map me.0.filled me.0.past know handles before handle popped-is
+        held).1 in
+        record {
+          outs = down knew lane;
+          view = outs-is knew outs;
           slot = new-slot;
           one = subst (λ (v : LaneView). IsLane v.map lane handle) (sym new-view) one.0;
-          knows = subst (λ (v : LaneView). KnowsIn v.filled v.past handle.seat (can.know lane))
+          knows = subst (λ (v : LaneView). KnowsIn v.filled v.past handle.seat (know lane))
               (sym new-view) one.1;
-        };
-        current = can.current lane (omega arith);
-      }
+        }
+
+    -- the others, when the view has lost the last lane alone, or seen more
+    held-left : (seen : List Event) → after.0 ≡ given new.0 (rest_outs new.0.outs) seen
+        → AreHeld after.0.map after.0.filled after.0.past lane know handles
+    held-left seen gone =
+        subst (λ (m : MapOf). AreHeld m after.0.filled after.0.past lane know handles)
+        (sym (ap (λ (v : LaneView). v.map) gone ∙ ap (λ (v : LaneView). v.map) new-view))
+        (subst (λ (f : List Event). AreHeld me.0.map f after.0.past lane know handles)
+        (sym (ap (λ (v : LaneView). v.filled) gone ∙ ap (λ (v : LaneView). v.filled) new-view))
+        (subst (λ (l : List Event). AreHeld me.0.map me.0.filled l lane know handles)
+        (sym (ap (λ (v : LaneView). v.past) gone ∙ ap (λ (v : LaneView). v.past) new-view))
+        (popped lane me.0.map me.0.filled me.0.past know handles before handle popped-is held).0))
+
+    outs-left : (seen : List Event) → after.0 ≡ given new.0 (rest_outs new.0.outs) seen
+        → after.0.outs ≡ down knew lane
+    outs-left seen gone = ap (λ (v : LaneView). v.outs) gone ∙ ap rest_outs (outs-is knew outs)
+
+  pub can-deal : CanDealBelow (lane + 1) me before → CanDeal lane new
+  can-deal can = record {
+    knew = can.knew lane;
+    whole = can.know lane;
+    handle = handle;
+    holds = holds-last can.knew can.know can.outs can.held;
+    current = can.current lane (omega arith);
+  }
 
   pub dealt : CanDealBelow (lane + 1) me before → HasDealt new after → CanDealBelow lane after handles
-  dealt can gone =
-      let old = (popped lane me.0.map me.0.filled me.0.past can.know handles before handle popped-is
-      can.held).0 in
+  dealt can gone = record {
+    knew = can.knew;
+    know = can.know;
+    outs = outs-left can.knew can.know can.outs can.held new.0.seen gone.0;
+    slots = slots-left can.slots gone.1;
+    held = held-left can.knew can.know can.outs can.held new.0.seen gone.0;
+    current = λ i less. can.current i (omega (arith, less));
+  }
+
+  -- the guest's own handle, and another one, beside it
+  pub can-give-own :
+      (own : ℕ) (whole : List Entry) → CanComeHome own whole (lane + 1) me before → lane ≡ own
+      → CanGive lane new
+  can-give-own own whole can here = record {
+    knew = can.knew lane;
+    whole = can.know lane;
+    handle = handle;
+    holds = holds-last can.knew can.know can.outs can.held;
+    guest = ap (λ (v : LaneView). v.guest) new-view ∙ can.guest ∙ ap Some (sym here);
+  }
+
+  pub can-deal-else :
+      (own : ℕ) (whole : List Entry) → CanComeHome own whole (lane + 1) me before → lane ≢ own
+      → CanDeal lane new
+  can-deal-else own whole can other = record {
+    knew = can.knew lane;
+    whole = can.know lane;
+    handle = handle;
+    holds = holds-last can.knew can.know can.outs can.held;
+    current = can.current lane (omega arith) other;
+  }
+
+  pub come-own :
+      (own : ℕ) (whole : List Entry) → CanComeHome own whole (lane + 1) me before → lane ≡ own
+      → HasGiven new after → CanComeHome own whole lane after handles
+  come-own own whole can here gone =
+      let seen = known_in new.0 new.1 in
       record {
         knew = can.knew;
         know = can.know;
-        outs = ap (λ (v : LaneView). v.outs) gone.0 ∙ ap rest_outs (outs-is can.knew can.outs);
+        outs = outs-left can.knew can.know can.outs can.held seen gone.0;
         slots = slots-left can.slots gone.1;
-        held = subst (λ (m : MapOf). AreHeld m after.0.filled after.0.past lane can.know handles)
-            (sym (ap (λ (v : LaneView). v.map) gone.0 ∙ ap (λ (v : LaneView). v.map) new-view))
-            (subst (λ (f : List Event). AreHeld me.0.map f after.0.past lane can.know handles)
-            (sym (ap (λ (v : LaneView). v.filled) gone.0 ∙ ap (λ (v : LaneView). v.filled) new-view))
-            (subst (λ (l : List Event). AreHeld me.0.map me.0.filled l lane can.know handles)
-            (sym (ap (λ (v : LaneView). v.past) gone.0 ∙ ap (λ (v : LaneView). v.past) new-view)) old));
+        held = held-left can.knew can.know can.outs can.held seen gone.0;
         current = λ i less. can.current i (omega (arith, less));
+        guest = ap (λ (v : LaneView). v.guest) gone.0 ∙ ap (λ (v : LaneView). v.guest) new-view
+            ∙ can.guest;
+        due = λ less. absurd (omega (arith, less, here));
+        seen = λ _.
+            ap (λ (v : LaneView). log_of v.seen) gone.0
+            ∙ ap (λ (slots : List (ℕ × Option HandleOf)). log_of (known_in new.0 slots)) new-slot
+            ∙ ap (λ (v : LaneView). log_of (known_of v.filled v.past handle.seat)) new-view
+            ∙ (known-of me.0.filled me.0.past handle.seat (can.know lane)
+            (knows-last can.knew can.know can.outs can.held)).0
+            ∙ ap (λ k. log_of (can.know k)) here ∙ can.due (omega (arith, here));
       }
+
+  pub come-else :
+      (own : ℕ) (whole : List Entry) → CanComeHome own whole (lane + 1) me before → lane ≢ own
+      → HasDealt new after → CanComeHome own whole lane after handles
+  come-else own whole can other gone = record {
+    knew = can.knew;
+    know = can.know;
+    outs = outs-left can.knew can.know can.outs can.held new.0.seen gone.0;
+    slots = slots-left can.slots gone.1;
+    held = held-left can.knew can.know can.outs can.held new.0.seen gone.0;
+    current = λ i less. can.current i (omega (arith, less));
+    guest = ap (λ (v : LaneView). v.guest) gone.0 ∙ ap (λ (v : LaneView). v.guest) new-view
+        ∙ can.guest;
+    due = λ less. can.due (omega (arith, less));
+    seen = λ more.
+        ap (λ (v : LaneView). log_of v.seen) gone.0 ∙ ap (λ (v : LaneView). log_of v.seen) new-view
+        ∙ can.seen (omega (arith, more, other));
+  }
 
   pub can-renew :
       (p : Plan) → lane + 1 ≡ p.seats → CanDealAnew (lane + 1) me before → CanRenew p lane new
@@ -396,6 +505,7 @@ holds-none me handles none idle = record {
     count = ap length none;
     each = λ i h at. absurd (omega (arith, slice_get_within handles i h at, ap length none));
   };
+  mine = λ i less own. absurd (omega (arith, less));
 }
 
 -- handles that have called nothing can be dealt
@@ -428,45 +538,93 @@ on_ok (Err fault) holds = tt
 
 -- ---- all handles are made one
 
+-- they have called nothing since they were gathered
+pub held-still :
+    (n : ℕ) (me : Me (Option HandleOf) LaneView) (handles : List HandleOf) → HoldsBelow n me handles
+    → HoldsStill n me handles
+held-still n me handles holds = record {
+  knew = holds.knew;
+  epoch = holds.epoch;
+  outs = holds.outs;
+  slots = holds.slots;
+  begun = holds.begun;
+  still = record {
+    know = holds.knew;
+    held = holds.held;
+    gone = λ i below.
+        let one = there_is handles i (omega (arith, below, holds.held.count)) in
+        record {
+          later = [];
+          grown = refl;
+          replayed = (holds.held.each i one.0 one.1).1.replayed;
+          own = refl;
+        };
+  };
+  mine = holds.mine;
+}
+
+-- so they can be dealt
+pub still-dealt :
+    (n : ℕ) (me : Me (Option HandleOf) LaneView) (handles : List HandleOf) → HoldsStill n me handles
+    → CanDealBelow (length handles) me handles
+still-dealt n me handles holds =
+    subst (λ k. CanDealBelow k me handles) (sym holds.still.held.count) (record {
+      knew = holds.knew;
+      know = holds.still.know;
+      outs = holds.outs;
+      slots = holds.slots;
+      held = holds.still.held;
+      current = λ i below.
+          current_gone i (holds.knew i) (holds.still.know i) (holds.still.gone i below);
+    })
+
 pub all-single :
-    (n : ℕ) (me : Me (Option HandleOf) LaneView) (handles : List HandleOf) → 1 ≤ n → n ≤ 256
-    → HoldsBelow n me handles → AreSingle handles
-all-single n me handles some few holds = record {
-  shared = me.0.map;
-  each = all-from (IsSingle me.0.map) handles (λ i h at.
-      let one = (holds.held.each i h at).0 in
+    (n : ℕ) (m : MapOf) (filled past : List Event) (know : ℕ → List Event) (handles : List HandleOf)
+    → 1 ≤ n → n ≤ 256 → AreHeld m filled past n know handles → AreSingle handles
+all-single n m filled past know handles some few held = record {
+  shared = m;
+  each = all-from (IsSingle m) handles (λ i h at.
+      let one = (held.each i h at).0 in
       record { map = one.map; alone = one.alone });
-  some = omega (arith, some, holds.held.count);
-  few = omega (arith, few, holds.held.count);
+  some = omega (arith, some, held.count);
+  few = omega (arith, few, held.count);
 }
 
 pub single-map :
-    (n : ℕ) (me : Me (Option HandleOf) LaneView) (handles : List HandleOf) (some : 1 ≤ n)
-    (few : n ≤ 256) (holds : HoldsBelow n me handles)
-    → (all-single n me handles some few holds).shared ≡ me.0.map
+    (n : ℕ) (m : MapOf) (filled past : List Event) (know : ℕ → List Event) (handles : List HandleOf)
+    (some : 1 ≤ n) (few : n ≤ 256) (held : AreHeld m filled past n know handles)
+    → (all-single n m filled past know handles some few held).shared ≡ m
 unfolding all-single
-single-map n me handles some few holds = refl
+single-map n m filled past know handles some few held = refl
+
+-- the same of what a token holds
+abbrev pub still-single :
+    (n : ℕ) (me : Me (Option HandleOf) LaneView) (handles : List HandleOf) → 1 ≤ n → n ≤ 256
+    → HoldsStill n me handles → AreSingle handles
+still-single n me handles some few holds =
+    all-single n me.0.map me.0.filled me.0.past holds.still.know handles some few holds.still.held
 
 module _
     (p : Plan) (me : Me (Option HandleOf) LaneView) (before after : List HandleOf) (some : 1 ≤ p.seats)
-    (few : p.seats ≤ 256) (seated : FitsLanes p.seats me.0) (holds : HoldsBelow p.seats me before) where
+    (few : p.seats ≤ 256) (seated : FitsLanes p.seats me.0) (holds : HoldsStill p.seats me before) where
   -- what a renewal makes of them, in the words of the token
   renewed-by :
       (result : Result ⊤ RenewFault) → IsPartedAnew p before after result
-      → AreRenewed p me.0.map me.0.filled me.0.past holds.knew after result
-  unfolding all-single
+      → AreRenewed p me.0.map me.0.filled me.0.past holds.still.know after result
   renewed-by result is =
       let begun = holds.begun (omega (arith, some)) in
-      subst (λ (f : List Event). AreRenewed p me.0.map f me.0.past holds.knew after result)
+      let know = holds.still.know in
+      let held = holds.still.held in
+      subst (λ (f : List Event). AreRenewed p me.0.map f me.0.past know after result)
       (sym begun.0)
-      (subst (λ (l : List Event). AreRenewed p me.0.map holds.epoch.filled l holds.knew after result)
+      (subst (λ (l : List Event). AreRenewed p me.0.map holds.epoch.filled l know after result)
       (sym begun.1)
-      (renewed-all p me.0.map holds.epoch holds.knew before after
+      (renewed-all p me.0.map holds.epoch know before after
       (subst (λ (l : List Event). All (IsOfGuest p.seats) (log_of l)) begun.1 seated.made)
-      (subst (λ (f : List Event). AreHeld me.0.map f holds.epoch.past p.seats holds.knew before) begun.0
-      (subst (λ (l : List Event). AreHeld me.0.map me.0.filled l p.seats holds.knew before) begun.1
-      holds.held))
-      (all-single p.seats me before some few holds) result refl is))
+      (subst (λ (f : List Event). AreHeld me.0.map f holds.epoch.past p.seats know before) begun.0
+      (subst (λ (l : List Event). AreHeld me.0.map me.0.filled l p.seats know before) begun.1 held))
+      (still-single p.seats me before some few holds) result
+      (single-map p.seats me.0.map me.0.filled me.0.past know before some few held) is))
 
   pub deals :
       (result : Result ⊤ RenewFault) → IsPartedAnew p before after result
@@ -482,7 +640,16 @@ module _
             knew = holds.knew;
             outs = holds.outs;
             slots = holds.slots;
-            anew = anew.0;
+            anew = record {
+              shared = anew.0.shared;
+              next = anew.0.next;
+              fits = anew.0.fits;
+              made = anew.0.made;
+              held = anew.0.held;
+              met = λ i below.
+                  goes_on i (log_of (holds.knew i)) (log_of (holds.still.know i))
+                  (log_of anew.0.next.past) [] [] (holds.still.gone i below) (anew.0.met i below);
+            };
           },
           anew.1,
         )),
@@ -499,6 +666,9 @@ module _
           outs = holds.outs;
           slots = holds.slots;
           held = as-before.held;
-          current = as-before.current;
+          current = λ i below.
+              current_more i (holds.knew i) (holds.still.know i) (as-before.know i)
+              (current_gone i (holds.knew i) (holds.still.know i) (holds.still.gone i below))
+              (as-before.current i below);
         })),
       )

@@ -1,30 +1,43 @@
--- What a renewal makes of the handles of all lanes.
-use Rattle.std.proofs.Common.{◌≡◌, ◌∙◌, ◌+◌, ◌++◌, ◌<◌, ◌≤◌, ℕ, zero, suc, List, [], ◌∷◌, All, Some, ap, inl, inr, length, map, refl, slice_get, subst, sym, arith}
+-- What a renewal makes of the handles of all lanes, and a count.
+use Rattle.std.proofs.Common.{◌≡◌, ◌∙◌, ◌+◌, ◌++◌, ◌<◌, ◌≤◌, ◌^◌, ℕ, cond, zero, suc, List, [], ◌∷◌, All, Some, ap, inl, inr, length, map, refl, slice_get, subst, sym, arith}
+use Rattle.std.specs.FinMap as numbers
 use Rattle.std.specs.List.{AllZip, range_with_len}
-use Rattle.std.specs.Prelude.{Err, IfErr, IfOk, None, Ok, Option, Result, ⊤, get_or, option_map, unwrap_or}
-use Rattle.std.proofs.lemmas.List.{length-map}
+use Rattle.std.specs.Prelude.{◌-◌, Err, IfErr, IfOk, None, Ok, Option, Result, ⊤, get_or, option_map, unwrap_or}
+use Rattle.std.proofs.lemmas.Bool.{eq-eqb}
+use Rattle.std.proofs.lemmas.List.{append_cancel_right, length-map}
 use Rattle.std.proofs.lemmas.List.Elements.{All-append, All-cons, All-head, All-nil, All-tail}
 use Rattle.std.proofs.lemmas.List.FromFn.{get_or-range_with_len, length-range_with_len}
 use Rattle.std.proofs.lemmas.Option.{get_or_from_slice_get, slice_get-get_or, slice_get-map, slice_get_within}
 use Rattle.nb_core.proofs.Seating.{All-left}
-use Rattle.nb_core.specs.Log.{Entry, IsReplayed, log_of, map_of_log}
-use Rattle.nb_core.specs.Plans.{Plan}
+use Rattle.nb_core.proofs.Theorems.{stays}
+use Rattle.nb_core.specs.History.{IsLegal}
+use Rattle.nb_core.specs.Log.{Entry, IsReplayed, calls_of, log_of, map_of_log}
+use Rattle.nb_core.specs.Meaning.{IsCrowded}
+use Rattle.nb_core.specs.Plans.{IsPlan, Plan, generations_of}
+use Rattle.nb_core.specs.declared.calls.Call.{Call}
+use Rattle.nb_core.specs.declared.calls.Reply.{Reply}
 use Rattle.nb_core.specs.declared.events.Event.{Event}
-use Rattle.nb_map.specs.Ending.{EndedOf, EndedWith, log_left}
-use Rattle.nb_map.specs.Entries.{HasOnlyRead}
+use Rattle.nb_core.specs.declared.shapes.TheConstants.{MAX_EXPONENT}
+use Rattle.nb_table.specs.Chains.{SeenBy}
+use Rattle.nb_table.specs.Views.{HasSeen}
+use Rattle.nb_map.specs.Ending.{EndedOf, EndedWith, HasAll, log_left}
+use Rattle.nb_map.specs.Entries.{HasOnlyRead, IsRead}
 use Rattle.nb_map.specs.Bulk.{whole_walk_steps}
 use Rattle.nb_map.specs.Handles.{HandleOf, IsSameMap, handle_on, seats_of}
-use Rattle.nb_map.specs.Logs.{log}
+use Rattle.nb_map.specs.Logs.{HasLogged, log}
 use Rattle.nb_map.specs.Maps.{MapOf, SeatOf, new_seat, new_seats}
 use Rattle.nb_map.specs.Renewing.{HasRenewed, IsKept}
+use Rattle.nb_map.specs.Settling.{HasCaughtUp}
 use Rattle.nb_map.specs.declared.faults.RenewFault.{RenewFault}
-use Rattle.nb_lasting.proofs.Calling.{known-then}
-use Rattle.nb_lasting.proofs.Epochs.{one_log_for_all}
+use Rattle.nb_map.specs.declared.faults.SettleFault.{SettleFault}
+use Rattle.nb_lasting.proofs.Calling.{crowded-away, known-then}
+use Rattle.nb_lasting.proofs.Epochs.{leaves, one_log_for_all}
 use Rattle.nb_lasting.proofs.Sharing.{log-as-events}
 use Rattle.nb_lasting.specs.Epochs.{AllKnow, EpochOf, HasGoneOnBy, HaveMetIn, IsOfEpoch, Knows}
-use Rattle.nb_lasting.specs.Gathered.{AreSingle, IsPartedAnew, IsSingle, seats_of_each}
-use Rattle.nb_lasting.specs.Renewal.{AreAnew, AreAsBefore, AreHeld, AreRenewed}
+use Rattle.nb_lasting.specs.Gathered.{HaveTooMany, IsPartedCounted, AreSingle, IsPartedAnew, IsSingle, seats_of_each}
+use Rattle.nb_lasting.specs.Renewal.{AreAnew, AreAsBefore, AreHeld, AreRenewed, AreStill}
 use Rattle.nb_lasting.specs.Shared.{EpochIn, IsCurrent, IsLane, IsOfGuest, KnowsIn, as_events, known_of}
+use Rattle.nb_lasting.specs.inside.Present.{HasSlots}
 
 -- ---- lists by index
 
@@ -116,6 +129,348 @@ whole-made e n seats ended whole many past left met =
     subst (All (IsOfGuest n)) (sym met.is)
     (All-append (IsOfGuest n) met.later e.past
     (All-left (IsOfGuest n) met.later e.filled (subst (All (IsOfGuest n)) met.left all)) past)
+
+-- ---- handles that were made one and parted again
+
+-- the seat has made these calls, of which this holds
+abbrev pub HasMade : (List (Call × Reply) → Type 0) → (old new : SeatOf) → Type 0
+HasMade Q old new = (made : List (Call × Reply)) × Q made × HasLogged old new made
+
+zip-weaker :
+    (P Q : SeatOf → SeatOf → Type 0) → ((x y : SeatOf) → P x y → Q x y) → (xs ys : List SeatOf)
+    → AllZip P xs ys → AllZip Q xs ys
+zip-weaker P Q weaker [] [] all = tt
+zip-weaker P Q weaker [] (y ∷ ys) all = absurd all
+zip-weaker P Q weaker (x ∷ xs) [] all = absurd all
+zip-weaker P Q weaker (x ∷ xs) (y ∷ ys) all = (weaker x y all.0, zip-weaker P Q weaker xs ys all.1)
+
+length-zip : (P : SeatOf → SeatOf → Type 0) (xs ys : List SeatOf) → AllZip P xs ys → length xs ≡ length ys
+length-zip P [] [] all = refl
+length-zip P [] (y ∷ ys) all = absurd all
+length-zip P (x ∷ xs) [] all = absurd all
+length-zip P (x ∷ xs) (y ∷ ys) all = ap suc (length-zip P xs ys all.1)
+
+-- the one log that each seat of a whole handle knows
+abbrev pub knows-of : EpochIn → HandleOf → ℕ → List Event
+knows-of e whole i = known_of e.filled e.past (get_or (seats_of whole) i whole.seat)
+
+module _
+    (Q : List (Call × Reply) → Type 0) (n : ℕ) (m : MapOf) (e : EpochIn) (knew : ℕ → List Event)
+    (before : List HandleOf) (held : AreHeld m e.filled e.past n knew before) (joined whole : HandleOf)
+    (one : joined.map ≡ m) (seats : seats_of joined ≡ seats_of_each before)
+    (same : IsSameMap joined whole) (moved : AllZip (HasMade Q) (seats_of joined) (seats_of whole)) where
+  pub long-after : length (seats_of whole) ≡ n
+  long-after =
+      sym (length-zip (HasMade Q) (seats_of joined) (seats_of whole) moved) ∙ ap length seats
+      ∙ (length-each before ∙ held.count)
+
+  after-at :
+      (i : ℕ) (s : SeatOf) → slice_get (seats_of whole) i ≡ Some s
+      → (s.chain.number ≡ i) × KnowsIn e.filled e.past s (knows-of e whole i)
+      × ((made : List (Call × Reply)) × Q made
+      × HasGoneOnBy i (log_of (knew i)) (log_of (knows-of e whole i)) made)
+  after-at i s at =
+      let was = zip-at (HasMade Q) (seats_of joined) (seats_of whole) i s moved at in
+      let h = handle-at before i was.0 (ap (λ xs. slice_get xs i) (sym seats) ∙ was.1) in
+      let each = held.each i h.0 h.1 in
+      let is = was.2 in
+      let number : was.0.chain.number ≡ i =
+      ap (λ (x : SeatOf). x.chain.number) (sym h.2) ∙ each.0.number in
+      let knows = known-then e was.0 s (knew i) is.0
+      (subst (λ x. KnowsIn e.filled e.past x (knew i)) h.2 each.1) is.2 in
+      let here : s ≡ get_or (seats_of whole) i whole.seat =
+      sym (get_or_from_slice_get (seats_of whole) i s whole.seat at) in (
+        is.2.number ∙ number,
+        subst (λ x. KnowsIn e.filled e.past s (known_of e.filled e.past x)) here knows.0,
+        (
+          is.0,
+          is.1,
+          subst (λ x. HasGoneOnBy i (log_of (knew i)) (log_of (known_of e.filled e.past x)) is.0) here
+              (subst (λ k. HasGoneOnBy k (log_of (knew i)) (log_of (known_of e.filled e.past s)) is.0)
+              number knows.1),
+        ),
+      )
+
+  pub seat-after : (i : ℕ) → i < n
+      → slice_get (seats_of whole) i ≡ Some (get_or (seats_of whole) i whole.seat)
+  seat-after i below =
+      slice_get-get_or (seats_of whole) i whole.seat (omega (arith, below, long-after))
+
+  pub held-after :
+      AreHeld m e.filled e.past n (knows-of e whole) (map (handle_on whole.map) (seats_of whole))
+  held-after = record {
+    count = length-map (seats_of whole) (handle_on whole.map) ∙ long-after;
+    each = λ i h at.
+        let s = mapped-at whole.map (seats_of whole) i h at in
+        let x = after-at i s.0 s.1 in (
+          record {
+            map = ap (λ (x : HandleOf). x.map) s.2 ∙ same ∙ one;
+            number = ap (λ (x : HandleOf). x.seat.chain.number) s.2 ∙ x.0;
+            alone = ap (λ (x : HandleOf). x.reserve) s.2;
+          },
+          subst (λ y. KnowsIn e.filled e.past y (knows-of e whole i))
+              (sym (ap (λ (x : HandleOf). x.seat) s.2)) x.1,
+        );
+  }
+
+  pub knows-after :
+      (i : ℕ) → i < n
+      → KnowsIn e.filled e.past (get_or (seats_of whole) i whole.seat) (knows-of e whole i)
+  knows-after i below =
+      (after-at i (get_or (seats_of whole) i whole.seat) (seat-after i below)).1
+
+  pub gone-after :
+      (i : ℕ) → i < n
+      → (made : List (Call × Reply)) × Q made
+      × HasGoneOnBy i (log_of (knew i)) (log_of (knows-of e whole i)) made
+  gone-after i below =
+      (after-at i (get_or (seats_of whole) i whole.seat) (seat-after i below)).2
+
+-- they are as they were
+pub kept-still :
+    (n : ℕ) (m : MapOf) (e : EpochIn) (knew : ℕ → List Event) (before : List HandleOf)
+    → AreHeld m e.filled e.past n knew before → (joined whole : HandleOf) → joined.map ≡ m
+    → seats_of joined ≡ seats_of_each before → whole ≡ joined
+    → AreStill m e.filled e.past n knew (map (handle_on whole.map) (seats_of whole))
+kept-still n m e knew before held joined whole one seats same = record {
+  know = knew;
+  held = record {
+    count = length-map (seats_of whole) (handle_on whole.map)
+        ∙ ap (λ (h : HandleOf). length (seats_of h)) same ∙ ap length seats
+        ∙ (length-each before ∙ held.count);
+    each = λ i h at.
+        let s = mapped-at whole.map (seats_of whole) i h at in
+        let at-seat : slice_get (seats_of_each before) i ≡ Some s.0 =
+        ap (λ xs. slice_get xs i) (sym (ap seats_of same ∙ seats)) ∙ s.1 in
+        let was = handle-at before i s.0 at-seat in
+        let each = held.each i was.0 was.1 in (
+          record {
+            map = ap (λ (x : HandleOf). x.map) s.2 ∙ ap (λ (x : HandleOf). x.map) same ∙ one;
+            number = ap (λ (x : HandleOf). x.seat.chain.number) s.2
+                ∙ ap (λ (x : SeatOf). x.chain.number) (sym was.2) ∙ each.0.number;
+            alone = ap (λ (x : HandleOf). x.reserve) s.2;
+          },
+          subst (λ x. KnowsIn e.filled e.past x (knew i))
+              (was.2 ∙ sym (ap (λ (x : HandleOf). x.seat) s.2)) each.1,
+        );
+  };
+  gone = λ i below.
+      let at : slice_get before i ≡ Some (get_or before i joined) =
+      slice_get-get_or before i joined (omega (arith, below, held.count)) in
+      record {
+        later = [];
+        grown = refl;
+        replayed = (held.each i (get_or before i joined) at).1.replayed;
+        own = refl;
+      };
+}
+
+-- what a handle knows leaves the map that its seat's log leaves
+pub seen-map :
+    (e : EpochIn) (seat : SeatOf) (whole : List Event) → KnowsIn e.filled e.past seat whole
+    → map_of_log (log_of whole) ≡ map_of_log (log seat)
+seen-map e seat whole knows =
+    ap map_of_log knows.is ∙ leaves knows.later (log_of e.past) (log_of e.filled) (sym e.same)
+    ∙ sym (ap map_of_log knows.here)
+
+-- how many keys they have, where they were counted
+abbrev pub HasSize : List Event → ℕ → Type 0
+HasSize whole size = size ≡ length (numbers.entries (map_of_log (log_of whole)))
+
+-- a key that a handle finds crowded out is so for ever
+crowded-still :
+    (p : Plan) → IsPlan p → (later seen : List Event) → IsLegal p (later ++ seen) → (k : ℕ)
+    → IsCrowded p seen k → IsCrowded p (later ++ seen) k
+crowded-still p plan later seen legal k crowded i less =
+    let is = crowded i less in
+    let stay = stays p plan later seen legal (generations_of p - 1) i
+    (omega (arith, plan.tables.0), less) in
+    record {
+      other = is.other;
+      is = stay.key (λ empty. absurd cc) ∙ is.is;
+      differs = is.differs;
+    }
+
+-- what is known of a lane's handle after a count, which had this seat before
+pub record IsCountedAt (m : MapOf) (seat : SeatOf) (whole : List Event) (size : ℕ) : Type 0 where
+  pub keys : HasSize whole size
+  pub absent :
+      (k : ℕ) → IsCrowded m.chain.shape seat.chain.seen k
+      → numbers.get (map_of_log (log_of whole)) k ≡ None
+
+-- what is known of all handles after a count
+pub record AreCountedIn (m : MapOf) (know : ℕ → List Event) (before after : List HandleOf)
+    (size : ℕ) : Type 0 where
+  pub at : (i : ℕ) (h : HandleOf) → slice_get before i ≡ Some h → IsCountedAt m h.seat (know i) size
+  pub whole : List Entry
+  pub logs : (i : ℕ) (h : HandleOf) → slice_get after i ≡ Some h → log h.seat ≡ whole
+  pub keys : size ≡ length (numbers.entries (map_of_log whole))
+
+-- handles that were counted have called nothing, and each knows the map of so many keys
+pub counted-still :
+    (n : ℕ) (m : MapOf) (e : EpochIn) (knew : ℕ → List Event) (before after : List HandleOf)
+    → AreHeld m e.filled e.past n knew before → (single : AreSingle before) → single.shared ≡ m
+    → (result : Result ℕ SettleFault) → IsPartedCounted before after result
+    → (still : AreStill m e.filled e.past n knew after)
+    × IfOk result (AreCountedIn m still.know before after)
+counted-still n m e knew before after held single one (Err fault) is = (
+  subst (AreStill m e.filled e.past n knew) (sym is.parted)
+      (kept-still n m e knew before held is.joined is.whole (is.one_map single ∙ one) is.seats is.kept),
+  tt,
+)
+counted-still n m e knew before after held single one (Ok size) is =
+    subst (λ hs. (still : AreStill m e.filled e.past n knew hs)
+    × AreCountedIn m still.know before hs size) (sym is.parted) (
+      record {
+        know = knows-of e is.whole;
+        held = held-after IsNone n m e knew before held is.joined is.whole same-map is.seats is.same
+            moved;
+        gone = λ i below.
+            let gone = gone-after IsNone n m e knew before held is.joined is.whole same-map is.seats
+            is.same moved i below in
+            subst (HasGoneOnBy i (log_of (knew i)) (log_of (knows-of e is.whole i))) gone.1 gone.2;
+      },
+      record {
+        at = at-each;
+        whole = log_of is.settled.tables.history;
+        logs = λ i h at.
+            let s = mapped-at is.whole.map (seats_of is.whole) i h at in
+            let caught = zip-at (HasCaughtUp is.joined.map (log_of is.settled.tables.history))
+            (seats_of is.joined) (seats_of is.whole) i s.0 is.settled.each s.1 in
+            ap (λ (x : HandleOf). log x.seat) s.2 ∙ caught.2.knows;
+        keys = is.settled.keys;
+      },
+    )
+  where
+    IsNone : List (Call × Reply) → Type 0
+    IsNone made = made ≡ []
+
+    same-map : is.joined.map ≡ m
+    same-map = is.one_map single ∙ one
+
+    history : List Event
+    history = is.settled.tables.history
+
+    moved : AllZip (HasMade IsNone) (seats_of is.joined) (seats_of is.whole)
+    moved =
+        zip-weaker (HasCaughtUp is.joined.map (log_of is.settled.tables.history)) (HasMade IsNone)
+        (λ old new caught. ([], refl, caught.logged)) (seats_of is.joined) (seats_of is.whole)
+        is.settled.each
+
+    -- what each handle knows then leaves the map of all calls
+    knows-all :
+        (i : ℕ) → i < n
+        → map_of_log (log_of (knows-of e is.whole i)) ≡ map_of_log (log_of is.settled.tables.history)
+    knows-all i below =
+        let seat = get_or (seats_of is.whole) i is.whole.seat in
+        let at = seat-after IsNone n m e knew before held is.joined is.whole same-map is.seats is.same
+        moved i below in
+        let caught = zip-at (HasCaughtUp is.joined.map (log_of is.settled.tables.history))
+        (seats_of is.joined) (seats_of is.whole) i seat is.settled.each at in
+        seen-map e seat (knows-of e is.whole i)
+        (knows-after IsNone n m e knew before held is.joined is.whole same-map is.seats is.same moved
+        i below)
+        ∙ ap map_of_log caught.2.knows
+
+    at-each :
+        (i : ℕ) (h : HandleOf) → slice_get before i ≡ Some h
+        → IsCountedAt m h.seat (knows-of e is.whole i) size
+    at-each i h at = record {
+      keys = is.settled.keys
+          ∙ ap (λ content. length (numbers.entries content)) (sym (knows-all i below));
+      absent = λ k crowded.
+          ap (λ content. numbers.get content k) (knows-all i below)
+          ∙ crowded-away m.chain.shape plan is.settled.tables.history legal k
+          (subst (λ h. IsCrowded m.chain.shape h k) (sym seen.is)
+          (crowded-still m.chain.shape plan seen.later h.seat.chain.seen
+          (subst (IsLegal m.chain.shape) seen.is legal) k crowded));
+    }
+      where
+        below : i < n
+        below = omega (arith, slice_get_within before i h at, held.count)
+
+        shape : is.joined.map.chain.shape ≡ m.chain.shape
+        shape = ap (λ (m : MapOf). m.chain.shape) same-map
+
+        plan : IsPlan m.chain.shape
+        plan = subst IsPlan shape is.settled.left.left.plan
+
+        legal : IsLegal m.chain.shape is.settled.tables.history
+        legal = subst (λ p. IsLegal p is.settled.tables.history) shape is.settled.tables.legal
+
+        seat-here : slice_get (seats_of is.joined) i ≡ Some h.seat
+        seat-here = ap (λ xs. slice_get xs i) is.seats ∙ seat-at before i h at
+
+        chain-here : slice_get (map (λ (seat : SeatOf). seat.chain) (seats_of is.joined)) i ≡ Some h.seat.chain
+        chain-here =
+            slice_get-map (λ (seat : SeatOf). seat.chain) (seats_of is.joined) i
+            ∙ ap (option_map (λ (seat : SeatOf). seat.chain)) seat-here
+
+        seen : HasSeen is.settled.tables.history h.seat.chain.number h.seat.chain.seen
+        seen =
+            at-all (λ (seat : SeenBy). HasSeen is.settled.tables.history seat.number seat.seen)
+            (map (λ (seat : SeatOf). seat.chain) (seats_of is.joined)) i h.seat.chain
+            is.settled.tables.seen chain-here
+
+-- where all seats know one log, that one is left
+one-left :
+    (seats : List SeatOf) (whole : List Entry) (first : SeatOf) (ended : EndedOf) → EndedWith seats ended
+    → slice_get seats 0 ≡ Some first
+    → ((i : ℕ) (seat : SeatOf) → slice_get seats i ≡ Some seat
+    → (log seat ≡ whole) × (seat.chain.number ≡ i))
+    → log_left ended ≡ whole
+one-left seats whole first ended left at each =
+    let all = at-all (HasAll (log_left ended)) seats 0 first left.logs at in
+    let is : log_left ended ≡ all.later ++ whole =
+    all.is ∙ ap (λ l. all.later ++ l) (each 0 first at).0 in
+    is ∙ ap (λ l. l ++ whole) (none all.later is)
+  where
+    none : (later : List Entry) → log_left ended ≡ later ++ whole → later ≡ []
+    none [] is = refl
+    none (entry ∷ later) is =
+        let below : entry.seat < length seats =
+        All-head (λ (entry : Entry). entry.seat < length seats) entry (later ++ whole)
+        (subst (All (λ (entry : Entry). entry.seat < length seats)) is left.made) in
+        let seat = get_or seats entry.seat first in
+        let there = slice_get-get_or seats entry.seat first below in
+        let all = at-all (HasAll (log_left ended)) seats entry.seat seat left.logs there in
+        let own = each entry.seat seat there in
+        let same : all.later ≡ entry ∷ later =
+        append_cancel_right all.later (entry ∷ later) whole
+        (ap (λ l. all.later ++ l) (sym own.0) ∙ sym all.is ∙ is) in
+        let none-own : calls_of entry.seat (entry ∷ later) ≡ [] =
+        ap (calls_of entry.seat) (sym same) ∙ ap (λ k. calls_of k all.later) (sym own.1) ∙ all.others in
+        let some-own : calls_of entry.seat (entry ∷ later)
+        ≡ (entry.call, entry.reply) ∷ calls_of entry.seat later =
+        ap (λ b. cond b ((entry.call, entry.reply) ∷ calls_of entry.seat later)
+        (calls_of entry.seat later)) (eq-eqb entry.seat entry.seat refl) in
+        absurd (omega (arith, ap length (sym some-own ∙ none-own)))
+
+-- a shape for twice the keys that were counted has room for them
+pub has-room-left :
+    (p : Plan) (n : ℕ) (m : MapOf) (filled past : List Event) (know counted-know : ℕ → List Event)
+    (before after : List HandleOf) (size keys : ℕ) → 1 ≤ n → AreHeld m filled past n know after
+    → AreCountedIn m counted-know before after size → size < 2 ^ MAX_EXPONENT → size ≤ keys
+    → HasSlots keys p → HaveTooMany p after
+    → ⊥
+has-room-left p n m filled past know counted-know before after size keys some held counted few fewer room many =
+    let first = get_or (seats_of_each after) 0 many.0.seat in
+    let at : slice_get (seats_of_each after) 0 ≡ Some first =
+    slice_get-get_or (seats_of_each after) 0 many.0.seat
+    (omega (arith, length-each after, held.count, some)) in
+    let left : EndedWith (seats_of_each after) many.2.ended =
+    subst (λ seats. EndedWith seats many.2.ended) many.1 many.2.left in
+    let is = one-left (seats_of_each after) counted.whole first many.2.ended left at
+    (λ i seat here.
+    let h = handle-at after i seat here in (
+      ap log (sym h.2) ∙ counted.logs i h.0 h.1,
+      ap (λ (s : SeatOf). s.chain.number) (sym h.2) ∙ (held.each i h.0 h.1).0.number,
+    )) in
+    let keys-left = ap (λ l. length (numbers.entries (map_of_log l))) is in
+    elim room [
+      | inl more ↦ omega (arith, more, fewer, many.2.small, keys-left, counted.keys)
+      | inr great ↦ omega (arith, great, few, many.2.small, keys-left, counted.keys)
+    ]
 
 module _
     (p : Plan) (m : MapOf) (e : EpochIn) (knew : ℕ → List Event) (before after : List HandleOf)
@@ -224,110 +579,25 @@ module _
       (joined whole : HandleOf) → joined.map ≡ m → seats_of joined ≡ seats_of_each before
       → IsKept joined whole
       → AreAsBefore m e.filled e.past p.seats knew (map (handle_on whole.map) (seats_of whole))
-  as-before joined whole one seats (inl same) = record {
-    know = knew;
-    held = record {
-      count = length-map (seats_of whole) (handle_on whole.map)
-          ∙ ap (λ (h : HandleOf). length (seats_of h)) same ∙ ap length seats
-          ∙ length-map before (λ (h : HandleOf). h.seat) ∙ held.count;
-      each = λ i h at.
-          let s = mapped-at whole.map (seats_of whole) i h at in
-          let at-seat : slice_get (seats_of_each before) i ≡ Some s.0 =
-          ap (λ xs. slice_get xs i) (sym (ap seats_of same ∙ seats)) ∙ s.1 in
-          let was = handle-at before i s.0 at-seat in
-          let each = held.each i was.0 was.1 in (
-            record {
-              map = ap (λ (x : HandleOf). x.map) s.2 ∙ ap (λ (x : HandleOf). x.map) same ∙ one;
-              number = ap (λ (x : HandleOf). x.seat.chain.number) s.2
-                  ∙ ap (λ (x : SeatOf). x.chain.number) (sym was.2) ∙ each.0.number;
-              alone = ap (λ (x : HandleOf). x.reserve) s.2;
-            },
-            subst (λ x. KnowsIn e.filled e.past x (knew i))
-                (was.2 ∙ sym (ap (λ (x : HandleOf). x.seat) s.2)) each.1,
-          );
-    };
-    current = λ i below.
-        let at : slice_get before i ≡ Some (get_or before i joined) =
-        slice_get-get_or before i joined (omega (arith, below, held.count)) in
-        record {
-          made = [];
-          reads = All-nil _;
-          gone = record {
-            later = [];
-            grown = refl;
-            replayed = (held.each i (get_or before i joined) at).1.replayed;
-            own = refl;
-          };
-        };
-  }
-  as-before joined whole one seats (inr (same, reads)) = record {
-    know = know;
-    held = record {
-      count = length-map (seats_of whole) (handle_on whole.map)
-          ∙ sym (length-zip (seats_of joined) (seats_of whole) reads) ∙ ap length seats
-          ∙ length-map before (λ (h : HandleOf). h.seat) ∙ held.count;
-      each = λ i h at.
-          let s = mapped-at whole.map (seats_of whole) i h at in
-          let x = after-at i s.0 s.1 in (
-            record {
-              map = ap (λ (x : HandleOf). x.map) s.2 ∙ same ∙ one;
-              number = ap (λ (x : HandleOf). x.seat.chain.number) s.2 ∙ x.0;
-              alone = ap (λ (x : HandleOf). x.reserve) s.2;
-            },
-            subst (λ y. KnowsIn e.filled e.past y (know i)) (sym (ap (λ (x : HandleOf). x.seat) s.2))
-                x.1,
-          );
-    };
-    current = λ i below.
-        let long : i < length (seats_of whole) =
-        omega (
-          arith,
-          below,
-          held.count,
-          length-zip (seats_of joined) (seats_of whole) reads,
-          ap length seats,
-          length-map before (λ (h : HandleOf). h.seat),
-        ) in
-        (after-at i (get_or (seats_of whole) i whole.seat)
-        (slice_get-get_or (seats_of whole) i whole.seat long)).2;
-  }
-    where
-      P : SeatOf → SeatOf → Type 0
-      P old new = HasOnlyRead joined.map old new (whole_walk_steps joined.map.chain.shape)
-
-      length-zip : (xs ys : List SeatOf) → AllZip (λ old new. HasOnlyRead joined.map old new (whole_walk_steps joined.map.chain.shape)) xs ys → length xs ≡ length ys
-      length-zip [] [] all = refl
-      length-zip [] (y ∷ ys) all = absurd all
-      length-zip (x ∷ xs) [] all = absurd all
-      length-zip (x ∷ xs) (y ∷ ys) all = ap suc (length-zip xs ys all.1)
-
-      know : ℕ → List Event
-      know i = known_of e.filled e.past (get_or (seats_of whole) i whole.seat)
-
-      after-at : (i : ℕ) (s : SeatOf) → slice_get (seats_of whole) i ≡ Some s
-          → (s.chain.number ≡ i) × KnowsIn e.filled e.past s (know i) × IsCurrent i (knew i) (know i)
-      after-at i s at =
-          let was = zip-at P (seats_of joined) (seats_of whole) i s reads at in
-          let h = handle-at before i was.0 (ap (λ xs. slice_get xs i) (sym seats) ∙ was.1) in
-          let each = held.each i h.0 h.1 in
-          let read = was.2 in
-          let number : was.0.chain.number ≡ i =
-          ap (λ (x : SeatOf). x.chain.number) (sym h.2) ∙ each.0.number in
-          let knows = known-then e was.0 s (knew i) read.made
-          (subst (λ x. KnowsIn e.filled e.past x (knew i)) h.2 each.1) read.logged in
-          let here : s ≡ get_or (seats_of whole) i whole.seat =
-          sym (get_or_from_slice_get (seats_of whole) i s whole.seat at) in (
-            read.logged.number ∙ number,
-            subst (λ x. KnowsIn e.filled e.past s (known_of e.filled e.past x)) here knows.0,
-            record {
-              made = read.made;
-              reads = read.reads;
-              gone = subst (λ x. HasGoneOnBy i (log_of (knew i)) (log_of (known_of e.filled e.past x))
-                  read.made) here
-                  (subst (λ n. HasGoneOnBy n (log_of (knew i))
-                  (log_of (known_of e.filled e.past s)) read.made) number knows.1);
-            },
-          )
+  as-before joined whole one seats (inl same) =
+      let still = kept-still p.seats m e knew before held joined whole one seats same in
+      record {
+        know = still.know;
+        held = still.held;
+        current = λ i below. record { made = []; reads = All-nil IsRead; gone = still.gone i below };
+      }
+  as-before joined whole one seats (inr (same, reads)) =
+      let moved = zip-weaker (λ old new. HasOnlyRead joined.map old new (whole_walk_steps joined.map.chain.shape))
+      (HasMade (All IsRead)) (λ old new read. (read.made, read.reads, read.logged)) (seats_of joined)
+      (seats_of whole) reads in
+      record {
+        know = knows-of e whole;
+        held = held-after (All IsRead) p.seats m e knew before held joined whole one seats same moved;
+        current = λ i below.
+            let is = gone-after (All IsRead) p.seats m e knew before held joined whole one seats same
+            moved i below in
+            record { made = is.0; reads = is.1; gone = is.2 };
+      }
 
   pub renewed-all :
       (result : Result ⊤ RenewFault) → single.shared ≡ m → IsPartedAnew p before after result

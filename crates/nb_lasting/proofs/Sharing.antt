@@ -156,7 +156,7 @@ there (x ∷ hs) (suc i) e = omega (arith, there hs i e)
 -- ---- logs
 
 -- what is current is so still after reads
-current_more :
+pub current_more :
     (i : ℕ) (seen middle last : List Event) → IsCurrent i seen middle → IsCurrent i middle last
     → IsCurrent i seen last
 current_more i seen middle last one two = record {
@@ -172,7 +172,7 @@ current_here i seen replayed = record {
   gone = record { later = []; grown = refl; replayed = replayed; own = refl };
 }
 
-current_gone :
+pub current_gone :
     (i : ℕ) (seen whole : List Event) → HasGoneOnBy i (log_of seen) (log_of whole) [] → IsCurrent i seen whole
 current_gone i seen whole gone = record { made = []; reads = All-nil IsRead; gone = gone }
 
@@ -682,7 +682,7 @@ with-else current lane i whole other = by (decided i lane)
     by (inl (is, _)) = absurd (other is)
     by (inr (_, differ)) = ap (λ b. if b then whole else current i) differ
 
-some-is : (i j : ℕ) → ◌≡◌ {A = Option ℕ} (Some i) (Some j) → i ≡ j
+pub some-is : (i j : ℕ) → ◌≡◌ {A = Option ℕ} (Some i) (Some j) → i ≡ j
 some-is i j e = ap (λ o. unwrap_or o i) e
 
 -- ---- a handle of the same map comes home

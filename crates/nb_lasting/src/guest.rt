@@ -1,22 +1,23 @@
 //! A guest of a map without an end.
-ghost use Rattle.std.specs.Prelude.{IfErr, IfOk, [], ◌≡◌};
+ghost use Rattle.std.specs.FinMap as numbers;
+ghost use Rattle.std.specs.Prelude.{IfErr, IfOk, [], length, ◌≡◌};
 ghost use Rattle.nb_core.specs.Calls.{Fills};
-ghost use Rattle.nb_core.specs.Log.{log_of, reply_at};
+ghost use Rattle.nb_core.specs.Log.{log_of, map_of_log, reply_at};
 ghost use Rattle.nb_core.specs.declared.calls.Call.TheVariants as call;
 ghost use Rattle.nb_map.specs.NamedCalls.{add_of, put_if_absent_of, put_of, remove_if_of, remove_of, replace_if_of, replace_of};
 ghost use Rattle.nb_lasting.specs.Guests.{GuestHasCalled, GuestHasFound, GuestHasMatched, GuestHasReplied, GuestIsRefused};
 ghost use Rattle.nb_lasting.specs.Holding.{IsIdleGuest};
-ghost use Rattle.nb_lasting.specs.Lasting.{as_write_fault};
-ghost use Rattle.nb_lasting.specs.inside.Guests.{HasMadeOrNone, HasWrittenHere, NeverOverflows};
+ghost use Rattle.nb_lasting.specs.Lasting.{IsNewKey, as_write_fault};
+ghost use Rattle.nb_lasting.specs.inside.Guests.{HasTried, HasWrittenHere, NeverOverflows};
 
+use crate::counting::count_through;
 use crate::faults::{GrowFault, WriteFault};
 use crate::hall::Hall;
-use crate::renewing::renew_through;
-use crate::shapes::shape_for;
+use crate::renewing::{renew_through, write_or_renew};
 use crate::shared::Token;
-use crate::through::{crowded_through, get_through, size_through, write_through};
-use nb_core::{Change, Key, MOST_KEYS, Num, Reply, Want};
-use nb_map::{PutFault, RenewFault};
+use crate::through::{crowded_through, get_through, write_through};
+use nb_core::{Change, Key, Num, OutOfMemory, Reply, Want};
+use nb_map::PutFault;
 use std::alloc::Global;
 use std::marker::Model;
 use std::sync::atomic::Ordering;
@@ -102,11 +103,8 @@ impl Guest {
         want: &Want,
         change: &Change,
     ) -> Result<Option<Reply>, WriteFault>
-        ensures wrote { IfOk result (HasMadeOrNone (call.Write key want.now change.now) self.old self.new) }
-        ensures refused { IfErr result (GuestIsRefused (call.Write key want.now change.now)
-            self.old self.new) }
+        ensures { HasTried (call.Write key want.now change.now) self.old self.new result }
     {
-        let renewals = self.hall.renewals.load(Ordering::SeqCst);
         match self.write_here(rt, key, want, change) {
             Ok(reply) => {
                 // Guests may lie side by side: no store where none is needed.
@@ -117,11 +115,30 @@ impl Guest {
             }
             Err(PutFault::ValueRange) => Err(WriteFault::ValueRange),
             Err(PutFault::Contended) => Ok(None),
-            Err(PutFault::Full) => {
-                self.renew(rt, renewals)?;
-                Ok(None)
-            }
+            Err(PutFault::Full) => self.write_or_renew(rt, key, want, change),
         }
+    }
+
+    /// Makes a write that found the map full, if it has room by now, or else the map anew.
+    fn write_or_renew<R: Wait>(
+        &mut self,
+        rt: &R,
+        key: Key,
+        want: &Want,
+        change: &Change,
+    ) -> Result<Option<Reply>, WriteFault>
+        requires new_key { IsNewKey (call.Write key want.now change.now) (map_of_log self.old.log) }
+        ensures { HasTried (call.Write key want.now change.now) self.old self.new result }
+    {
+        write_or_renew(
+            rt,
+            &self.hall,
+            &mut self.token,
+            self.lane,
+            key,
+            want,
+            change,
+        )
     }
 
     /// Makes a write on the map that is there.
@@ -145,17 +162,19 @@ impl Guest {
         )
     }
 
-    /// About how many keys the map has.
-    fn size_estimate<R: Wait>(&mut self, rt: &R) -> usize
-        ensures { GuestHasCalled self.old self.new [] }
+    /// How many keys the map has, exactly, at one moment while others call. It waits for each guest's
+    /// call, as a renewal does, and takes memory for some vectors of as many handles as there are guests.
+    pub fn size<R: Wait>(&mut self, rt: &R) -> Result<u64, OutOfMemory>
+        ensures called { GuestHasCalled self.old self.new [] }
+        ensures size { IfOk result (λ size. size ≡ length (numbers.entries (map_of_log self.new.log))) }
     {
-        let size = size_through(rt, &self.hall.table.shared, &mut self.token, self.lane);
-        // What others count meanwhile may make it less than nothing.
-        if size > MOST_KEYS as u64 {
-            0
-        } else {
-            size as usize
-        }
+        count_through(rt, &self.hall, &mut self.token, self.lane)
+    }
+
+    /// How often the map was made anew so far, by any guest. No clause says so: no contract can tell what
+    /// a number holds that threads share beside the map.
+    pub fn renewals(&self) -> u64 {
+        self.hall.renewals.load(Ordering::SeqCst)
     }
 
     /// Whether more than two thirds of the last table are taken.
@@ -184,25 +203,7 @@ impl Guest {
     fn renew<R: Wait>(&mut self, rt: &R, renewals: u64) -> Result<(), GrowFault>
         ensures { GuestHasCalled self.old self.new [] }
     {
-        let keys = self.size_estimate(rt).saturating_mul(2);
-        let seats = self.hall.table.slot_count();
-        match renew_through(
-            rt,
-            &self.hall,
-            &mut self.token,
-            shape_for(keys, seats),
-            renewals,
-        ) {
-            Ok(_) => Ok(()),
-            Err(RenewFault::Full) => {
-                if keys >= MOST_KEYS {
-                    Err(GrowFault::Full)
-                } else {
-                    Ok(())
-                }
-            }
-            Err(_) => Err(GrowFault::OutOfMemory),
-        }
+        renew_through(rt, &self.hall, &mut self.token, self.lane, renewals)
     }
 
     /// A write that puts no sum.

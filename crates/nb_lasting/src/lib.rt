@@ -4,6 +4,7 @@
 #![tactic(auto)]
 
 mod closing;
+mod counting;
 mod faults;
 mod gathered;
 mod guest;

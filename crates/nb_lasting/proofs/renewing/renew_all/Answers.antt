@@ -1,13 +1,13 @@
 use Rattle.std.proofs.Common.{◌≡◌, ◌∙◌, ◌≤◌, ap, subst, sym, true, false, arith}
 use Rattle.nb_map.specs.Maps.{MapOf}
-use Rattle.nb_lasting.proofs.Dealt.{all-single, deals, on_ok}
+use Rattle.nb_lasting.proofs.Dealt.{deals, on_ok, still-single}
 use Rattle.nb_lasting.proofs.renewing.renew_all.Goals as goal
 
 pub parted_anew-handles-requires : goal.parted_anew-handles-requires
 parted_anew-handles-requires g c =
     let seats = c.requires.shape in
     record {
-      single = all-single c.args.shape.seats c.args.token.now.me c.args.handles.items
+      single = still-single c.args.shape.seats c.args.token.now.me c.args.handles.items
           (subst (λ n. 1 ≤ n) (sym seats) c.args.hall.now.some) (subst (λ n. n ≤ 256) (sym seats) c.args.hall.now.few)
           c.requires.holds;
     }
@@ -25,8 +25,8 @@ deal_renewed-requires g c =
       some = c.args.hall.now.some;
       words = c.args.hall.now.words;
       few = c.args.hall.now.few;
-      anew = λ good. (done.1 (sym c.is_ok.ensures.value ∙ good)).0;
-      as_before = λ bad. done.2 (sym c.is_ok.ensures.value ∙ bad);
+      anew = λ good. (done.1 (sym c.is_ok-made.ensures.value ∙ good)).0;
+      as_before = λ bad. done.2 (sym c.is_ok-made.ensures.value ∙ bad);
     }
 
 pub returns-clause-anew : goal.returns-clause-anew
@@ -39,5 +39,9 @@ returns-clause-anew g c =
     on_ok c.parted_anew-handles.result.1 (λ good.
     let shaped = done.1 good in
     ap (λ (m : MapOf). m.chain.shape)
-    (c.deal_renewed.ensures.map (c.is_ok.ensures.value ∙ good) shaped.0)
+    (c.deal_renewed.ensures.map (c.is_ok-made.ensures.value ∙ good) shaped.0)
     ∙ shaped.1)
+
+pub returns-clause-full : goal.returns-clause-full
+returns-clause-full g c full =
+    let is = c.parted_anew-handles.ensures in (is.joined, is.seats, is.full full)

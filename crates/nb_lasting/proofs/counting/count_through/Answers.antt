@@ -1,0 +1,93 @@
+use Rattle.std.proofs.Common.{◌≡◌, ◌∙◌, ◌<◌, ◌≤◌, ℕ, [], Some, ap, length, refl, subst, sym, arith}
+use Rattle.nb_core.specs.Log.{log_of}
+use Rattle.nb_lasting.proofs.Counted.{called-home, can-come-home, size-home, still-by}
+use Rattle.nb_lasting.proofs.Dealt.{held-still, still-single}
+use Rattle.nb_lasting.proofs.counting.count_through.Goals as goal
+
+pub counted-handles-requires : goal.counted-handles-requires
+counted-handles-requires g c =
+    let some : 1 ≤ c.slot_count-seats.result =
+    omega (arith, c.slot_count-seats.ensures, c.args.hall.now.slots, c.args.hall.now.some) in
+    let few : c.slot_count-seats.result ≤ 256 =
+    omega (arith, c.slot_count-seats.ensures, c.args.hall.now.slots, c.args.hall.now.few) in
+    record {
+      single = still-single c.slot_count-seats.result c.gather_all.new.token.me
+          c.in_ok-handles.handles.items some few
+          (held-still c.slot_count-seats.result c.gather_all.new.token.me c.in_ok-handles.handles.items
+          c.in_ok-handles.ensures.holds);
+    }
+
+pub all_home-requires-clause-holds : goal.all_home-requires-clause-holds
+all_home-requires-clause-holds g c =
+    let n = c.slot_count-seats.result in
+    let me = c.gather_all.new.token.me in
+    let before = c.in_ok-handles.handles.items in
+    let after = c.counted-handles.result.0.items in
+    let holds = held-still n me before c.in_ok-handles.ensures.holds in
+    let some : 1 ≤ c.slot_count-seats.result =
+    omega (arith, c.slot_count-seats.ensures, c.args.hall.now.slots, c.args.hall.now.some) in
+    let few : c.slot_count-seats.result ≤ 256 =
+    omega (arith, c.slot_count-seats.ensures, c.args.hall.now.slots, c.args.hall.now.few) in
+    let below : c.args.lane < c.slot_count-seats.result =
+    omega (arith, c.slot_count-seats.ensures, c.args.hall.now.slots, c.requires.lane) in
+    let still = (still-by n me before after some few holds c.counted-handles.result.1
+    c.counted-handles.ensures).0 in (
+      log_of (still.know c.args.lane),
+      can-come-home n me before after some few holds still c.args.lane
+          (c.gather_all.ensures.guest.guest ∙ c.requires.idle.guest) below,
+    )
+
+pub returns-in-Ok-clause-called : goal.returns-in-Ok-clause-called
+returns-in-Ok-clause-called g c =
+    let n = c.slot_count-seats.result in
+    let me = c.gather_all.new.token.me in
+    let before = c.in_ok-handles.handles.items in
+    let after = c.counted-handles.result.0.items in
+    let holds = held-still n me before c.in_ok-handles.ensures.holds in
+    let some : 1 ≤ c.slot_count-seats.result =
+    omega (arith, c.slot_count-seats.ensures, c.args.hall.now.slots, c.args.hall.now.some) in
+    let few : c.slot_count-seats.result ≤ 256 =
+    omega (arith, c.slot_count-seats.ensures, c.args.hall.now.slots, c.args.hall.now.few) in
+    let below : c.args.lane < c.slot_count-seats.result =
+    omega (arith, c.slot_count-seats.ensures, c.args.hall.now.slots, c.requires.lane) in
+    let still = (still-by n me before after some few holds c.counted-handles.result.1
+    c.counted-handles.ensures).0 in
+    called-home n me before after some few holds still c.args.lane
+    (c.gather_all.ensures.guest.guest ∙ c.requires.idle.guest) below c.args.token.now.me.0
+    c.gather_all.ensures.guest.seen c.all_home.new.token.me.0 c.all_home.ensures.seen
+
+pub returns-in-Ok-clause-size : goal.returns-in-Ok-clause-size
+returns-in-Ok-clause-size g c =
+    let n = c.slot_count-seats.result in
+    let me = c.gather_all.new.token.me in
+    let before = c.in_ok-handles.handles.items in
+    let after = c.counted-handles.result.0.items in
+    let holds = held-still n me before c.in_ok-handles.ensures.holds in
+    let some : 1 ≤ c.slot_count-seats.result =
+    omega (arith, c.slot_count-seats.ensures, c.args.hall.now.slots, c.args.hall.now.some) in
+    let few : c.slot_count-seats.result ≤ 256 =
+    omega (arith, c.slot_count-seats.ensures, c.args.hall.now.slots, c.args.hall.now.few) in
+    let below : c.args.lane < c.slot_count-seats.result =
+    omega (arith, c.slot_count-seats.ensures, c.args.hall.now.slots, c.requires.lane) in
+    size-home n me before after some few holds c.counted-handles.result.1 c.counted-handles.ensures
+    c.in-Ok.size c.in-Ok.is c.args.lane (c.gather_all.ensures.guest.guest ∙ c.requires.idle.guest) below
+    c.all_home.new.token.me.0 c.all_home.ensures.seen
+
+pub returns-in-Err-clause-called : goal.returns-in-Err-clause-called
+returns-in-Err-clause-called g c =
+    let n = c.slot_count-seats.result in
+    let me = c.gather_all.new.token.me in
+    let before = c.in_ok-handles.handles.items in
+    let after = c.counted-handles.result.0.items in
+    let holds = held-still n me before c.in_ok-handles.ensures.holds in
+    let some : 1 ≤ c.slot_count-seats.result =
+    omega (arith, c.slot_count-seats.ensures, c.args.hall.now.slots, c.args.hall.now.some) in
+    let few : c.slot_count-seats.result ≤ 256 =
+    omega (arith, c.slot_count-seats.ensures, c.args.hall.now.slots, c.args.hall.now.few) in
+    let below : c.args.lane < c.slot_count-seats.result =
+    omega (arith, c.slot_count-seats.ensures, c.args.hall.now.slots, c.requires.lane) in
+    let still = (still-by n me before after some few holds c.counted-handles.result.1
+    c.counted-handles.ensures).0 in
+    called-home n me before after some few holds still c.args.lane
+    (c.gather_all.ensures.guest.guest ∙ c.requires.idle.guest) below c.args.token.now.me.0
+    c.gather_all.ensures.guest.seen c.all_home.new.token.me.0 c.all_home.ensures.seen

@@ -1,0 +1,17 @@
+use Rattle.std.proofs.Common.{◌≡◌, ◌∷◌, [], refl, subst}
+use Rattle.nb_core.specs.Log.{log_of}
+use Rattle.nb_lasting.specs.Guests.{GuestHasCalled, GuestOf}
+use Rattle.nb_lasting.specs.inside.Guests.{guest_of}
+use Rattle.nb_lasting.proofs.Visiting.{called_through}
+use Rattle.nb_lasting.proofs.guest.Guest.size.Goals as goal
+
+pub returns-clause-called : goal.returns-clause-called
+returns-clause-called g c =
+    let after : GuestOf = record {
+      of = (guest_of c.self.inside).of;
+      number = c.self.inside.lane;
+      log = log_of c.count_through.new.token.me.0.seen;
+    } in
+    subst (λ (guest : GuestOf). GuestHasCalled guest after []) c.self.view_is
+    (called_through (guest_of c.self.inside) after c.self.inside.token.me.0
+    c.count_through.new.token.me.0 [] refl refl refl refl c.count_through.ensures.called)

@@ -1,0 +1,33 @@
+use Rattle.std.proofs.Common.{◌≡◌, ◌≢◌, ◌∙◌, ◌∷◌, Some, ap, sym, true, false}
+use Rattle.std.specs.Prelude.{None}
+use Rattle.std.proofs.lemmas.Bool.Decides.{nat_tests}
+use Rattle.nb_lasting.proofs.Dealt.{can-deal-else, can-give-own, come-else, come-own, slot_is}
+use Rattle.nb_lasting.proofs.renewing.come_home.Goals as goal
+
+pub exchange-requires : goal.exchange-requires
+exchange-requires c =
+    (c.requires.table, (None, slot_is c.args.lane c.args.token.now.me c.requires.holds.1.slots))
+
+pub give-requires-clause-holds : goal.give-requires-clause-holds
+give-requires-clause-holds c =
+    can-give-own c.args.lane c.args.token.now.me c.exchange.new.seat.me c.exchange.new.seat.me
+    c.pop.new.self.items c.args.handles.now.items c.in-Some.handle c.in-Some.ensures.items
+    c.exchange.ensures.3 c.args.own c.requires.holds.0 c.requires.holds.1 c.if-lane-own.true
+
+pub give_back-requires-clause-holds : goal.give_back-requires-clause-holds
+give_back-requires-clause-holds c =
+    can-deal-else c.args.lane c.args.token.now.me c.exchange.new.seat.me c.exchange.new.seat.me
+    c.pop.new.self.items c.args.handles.now.items c.in-Some.handle c.in-Some.ensures.items
+    c.exchange.ensures.3 c.args.own c.requires.holds.0 c.requires.holds.1 c.if-lane-own.false
+
+pub returns-then-lane-own-clause-holds : goal.returns-then-lane-own-clause-holds
+returns-then-lane-own-clause-holds c whole can =
+    come-own c.args.lane c.args.token.now.me c.exchange.new.seat.me c.give.new.token.me
+    c.pop.new.self.items c.args.handles.now.items c.in-Some.handle c.in-Some.ensures.items
+    c.exchange.ensures.3 c.args.own whole can c.if-lane-own.true c.give.ensures.given
+
+pub returns-else-lane-own-clause-holds : goal.returns-else-lane-own-clause-holds
+returns-else-lane-own-clause-holds c whole can =
+    come-else c.args.lane c.args.token.now.me c.exchange.new.seat.me c.give_back.new.token.me
+    c.pop.new.self.items c.args.handles.now.items c.in-Some.handle c.in-Some.ensures.items
+    c.exchange.ensures.3 c.args.own whole can c.if-lane-own.false c.give_back.ensures.given
