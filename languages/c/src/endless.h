@@ -147,8 +147,6 @@ void delist(samvolip_map *map);
 unsigned find_lane(const samvolip_map *map, const struct thread *owner);
 part *enter_slowly(samvolip_map *map, unsigned what, unsigned share);
 void rest_lane(void);
-void *let_go(const samvolip_map *map);
-void take_back(const samvolip_map *map, void *held);
 
 /* gate.c */
 void begin_gate(void);
@@ -284,6 +282,15 @@ static inline bool counts_down(const samvolip_map *map, lane *used, const part *
     uint32_t *left = used->left[place_of(map, in)];
     left[GOES] += change == COMES;
     return left[change]-- == 0;
+}
+
+/* Around what may take long in a call of one key: the caller lets go of what others may want. Nothing of the map is held meanwhile. */
+static inline void *let_go(const samvolip_map *map) { return map->let_go ? map->let_go() : NULL; }
+
+static inline void take_back(const samvolip_map *map, void *held)
+{
+    if (map->take_back)
+        map->take_back(held);
 }
 
 static inline void leave(void)

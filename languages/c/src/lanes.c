@@ -67,10 +67,10 @@ static void give_back(samvolip_map *map)
 
 void samvolip_map_leave(samvolip_map *map)
 {
-    if (!go_inside())
-        return;
-    give_back(map);
-    go_outside();
+    if (go_inside()) {
+        give_back(map);
+        go_outside();
+    }
 }
 
 static void thread_ends(void *unused)
@@ -107,15 +107,6 @@ void rest_lane(void)
         atomic_store(&here.shared->busy, REST);
     here.shared = NULL;
     atomic_store(&here.busy, WAITS);
-}
-
-/* Around what may take long in a call of one key: the caller lets go of what others may want. Nothing of the map is held meanwhile. */
-void *let_go(const samvolip_map *map) { return map->let_go ? map->let_go() : NULL; }
-
-void take_back(const samvolip_map *map, void *held)
-{
-    if (map->take_back)
-        map->take_back(held);
 }
 
 /* Begins a call in the part that has this share, but in the common case; NULL within another call. While the gate doesn't let it in it

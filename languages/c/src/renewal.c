@@ -29,9 +29,7 @@ static int new_core(samvolip_map *map, uint32_t exponent, core **made)
     core *fresh = *made = calloc(1, sizeof *fresh + map->count * sizeof *fresh->seats);
     if (!fresh)
         return SAMVOLIP_E_OUT_OF_MEMORY;
-    fresh->number = atomic_fetch_add(&numbers, 1);
-    fresh->users = 1;
-    fresh->exponent = exponent;
+    *fresh = (core){.number = atomic_fetch_add(&numbers, 1), .users = 1, .exponent = exponent};
     lock(map);
     map->slots += slots_of(exponent);
     bool is_allowed = map->options.memory == 0 || map->slots <= map->options.memory / sizeof(samvolip_entry);
@@ -111,33 +109,43 @@ static size size_for(const samvolip_map *map, range places, enum why why, uint64
 static uint64_t crowded(uint64_t slots) { return slots * 2 / 3; }
 static uint64_t tight(uint64_t slots) { return slots * 7 / 8; }
 
+/* Fewer keys than these are too few for a part. */
+static uint64_t least_keys(const samvolip_map *map, const part *in)
+{
+    uint64_t slots = slots_of(in->core->exponent), room = room_in(map, only(place_of(map, in)));
+    return slots > slots_of(exponent_of(with_half(room))) ? slots / (8 * map->options.growth) : 0;
+}
+
 /* Says when a lane looks how full a part is again, of whose slots so many are taken: after its share of the keys that may come before
    the part is crowded, or if it is, tight; or of those that may go before it is sparse. It looks now and then in any case, since others
    may have taken keys out. */
-static void count_anew(samvolip_map *map, const part *in, uint64_t taken, uint64_t keys, uint64_t least_keys)
+static void count_anew(const samvolip_map *map, const part *in, uint64_t taken, uint64_t keys, uint32_t *left)
 {
-    uint64_t slots = slots_of(in->core->exponent), most = taken < crowded(slots) ? crowded(slots) : tight(slots);
+    uint64_t slots = slots_of(in->core->exponent), most = taken < crowded(slots) ? crowded(slots) : tight(slots), least = least_keys(map, in);
     uint64_t writers = greater(1, map->taken < map->count - COMMON ? map->taken : map->taken + SHARED); /* none shares while lanes are free */
     uint64_t at_least = LEAST_LEFT + slots / greater(512, 64 * writers);
-    uint32_t *left = used_lane(map)->left[place_of(map, in)];
-    uint64_t comes = taken < most ? (most - taken) / writers : slots / 64, goes = least_keys < keys ? (keys - least_keys) / writers : 0;
+    uint64_t comes = taken < most ? (most - taken) / writers : slots / 64, goes = least < keys ? (keys - least) / writers : 0;
     left[COMES] = (uint32_t)greater(at_least, comes < slots / 8 ? comes : slots / 8);
-    left[GOES] = least_keys == 0 ? INT32_MAX : (uint32_t)greater(at_least, goes);
+    left[GOES] = least == 0 ? INT32_MAX : (uint32_t)greater(at_least, goes);
 }
 
 /* ---- the exchange -------------------------------------------------------------------------- */
 
-/* With the lock, and all calls in these parts at their end: the cores that were and those to come change places. Each lane looks soon how
-   full they are. */
+/* With the lock, and all calls in these parts at their end: the cores that were and those to come change places. */
 static void change_cores(samvolip_map *map, job *of)
 {
-    unsigned end = (unsigned)greater(of->from.end, of->to.end);
-    for (unsigned place = of->from.first < of->to.first ? of->from.first : of->to.first; place < end; place++) {
+    range places = of->from.first == of->to.first ? of->to : EVERYWHERE;
+    for (unsigned place = places.first; place < places.end; place++) {
         core *was = map->parts[place].core;
         map->parts[place].core = of->cores[place];
         of->cores[place] = was;
+    }
+    for (unsigned place = of->to.first; place < of->to.end; place++) {
+        uint64_t keys = keys_in(map, only(place));
+        uint32_t left[2];
+        count_anew(map, &map->parts[place], keys, keys, left);
         for (unsigned i = 0; i < map->count; i++)
-            memset(map->lanes[i].left[place], 0, sizeof map->lanes[i].left[place]);
+            memcpy(map->lanes[i].left[place], left, sizeof left);
     }
     map->is_divided = of->to.first > 0;
 }
@@ -235,12 +243,10 @@ static COLD enum why look_for_time(samvolip_map *map, part *in)
     samvolip_slots found;
     samvolip_occupancy(seat, &found);
     uint64_t slots = slots_of(in->core->exponent), keys = samvolip_size_estimate(seat), taken = slots * found.taken / found.looked;
-    uint64_t asked = slots_of(exponent_of(with_half(room_in(map, only(place_of(map, in))))));
-    uint64_t least_keys = slots > asked ? slots / (8 * map->options.growth) : 0;
-    count_anew(map, in, taken, keys, least_keys);
+    count_anew(map, in, taken, keys, used_lane(map)->left[place_of(map, in)]);
     if (taken > crowded(slots))
         return taken > tight(slots) ? TIGHT : CROWDED;
-    return keys < least_keys ? SPARSE : NOT_YET;
+    return keys < least_keys(map, in) ? SPARSE : NOT_YET;
 }
 
 /* Alone with a part, or if it is sparse with all: what is to be renewed, which is the whole map if that may be too small for parts. */

@@ -4,18 +4,20 @@
 int samvolip_map_size_estimate(samvolip_map *map, uint64_t *size)
 {
     uint64_t sum;
-    bool was_divided;
+    bool is_whole;
     do { /* again if the map was divided meanwhile, or is no more */
-        was_divided = map->is_divided;
+        range parts = parts_of(map);
         sum = 0;
-        for (unsigned share = 0; share < (was_divided ? PARTS : 1); share++) {
-            const part *into = enter_slowly(map, READS, share);
+        is_whole = true;
+        for (unsigned place = parts.first; place < parts.end && is_whole; place++) {
+            const part *into = enter_slowly(map, READS, place - parts.first);
             if (!into)
                 return SAMVOLIP_E_NESTED;
             sum += samvolip_size_estimate(used_seat(map, into));
+            is_whole = place_of(map, into) == place;
             leave();
         }
-    } while (map->is_divided != was_divided);
+    } while (!is_whole);
     *size = sum;
     return SAMVOLIP_OK;
 }
