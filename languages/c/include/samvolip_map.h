@@ -233,9 +233,8 @@ int samvolip_map_look(samvolip_map *map, samvolip_map_figures *figures);
  * samvolip_map_walk_next returns SAMVOLIP_PRESENT, and a key and its number are written; or
  * SAMVOLIP_ABSENT at the end.
  *
- * Cost: memory for 64 entries; a load for each slot on the way, and a lock for every 64 keys and for
- * every 4,096 slots. The tables in which it began are kept until it ends, beside those that `memory`
- * in the options bounds.
+ * Cost: memory for 128 entries; a load for each slot on the way, and a lock for every 128 slots. The
+ * tables in which it began are kept until it ends, beside those that `memory` in the options bounds.
  * Refused: E_NESTED; and by the first E_OUT_OF_MEMORY.
  */
 int samvolip_map_walk_begin(samvolip_map *map, samvolip_map_walk **walk);

@@ -511,23 +511,17 @@ inline choose() {
     fi
 }
 
+/* With all entries; or a clear, with none. */
 inline renew() {
     atomic { has_failed = false; choose() };
     close_gates(READS_ONLY);
     if
-    :: has_failed = true /* more keys came than the core to come has slots */
-    :: share_out(COPYING); has_failed = refused[mine]
+    :: true
+    :: share_out(COPYING); has_failed = refused[mine] /* more keys came than the core to come has slots, too */
     fi;
 #ifndef EXCHANGES_WHILE_READS_GO_ON
-    if :: has_failed :: else -> close_gates(CLOSED) fi;
-#endif
-    exchange_and_open()
-}
-
-/* Puts empty cores in the place of those that are there. */
-inline clear() {
-    atomic { has_failed = false; choose() };
     close_gates(CLOSED);
+#endif
     exchange_and_open()
 }
 
@@ -586,7 +580,6 @@ proctype whole(byte me) {
        :: alone_with == ALL_PLACES || divided -> renew()
        :: alone_with != ALL_PLACES && !divided /* the part isn't there any more */
 #ifndef RENEWALS_ALONE
-       :: alone_with == ALL_PLACES -> clear()
        :: alone_with == ALL_PLACES -> count()
        :: alone_with == ALL_PLACES -> fork(); goto next_one
 #endif

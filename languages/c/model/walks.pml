@@ -1,7 +1,7 @@
 /* walks.pml - how long a core of a map (../src/endless.h) lives, for spin. README.md says what each name of an #ifdef breaks.
 
-   A walk stays in the core in which it began, also when another one has come into its place. Then the core is over, and is freed by
-   who ends its last walk, or at once if nobody walks there. Whoever is alone with the map puts another core in, or gives that up and
+   A walk stays in the core in which it began, also when another one has come into its place. Each core counts its users: the map, or who
+   is about to put it there, and walks. The last one frees it. Whoever is alone with the map puts another core in, or gives that up and
    frees it, or clears: then it walks over the core that was. Steps under the map's lock are one atomic step. */
 #ifndef THREADS
 #define THREADS 3
@@ -9,20 +9,20 @@
 #define CORES 4 /* blocks of memory; if none is left, a core to come is refused */
 
 byte current;                        /* the map's core */
-byte walks[CORES];                   /* that began there and haven't ended */
-bool is_over[CORES], lives[CORES];   /* `lives`: its memory isn't freed */
-byte walkers[CORES];                 /* for the assertions alone: who may still use it */
+byte users[CORES];
+bool lives[CORES];                   /* its memory isn't freed */
+byte walkers[CORES];                 /* for the assertions alone: who may still walk there */
 bool alone;
 
 inline free_core(one) {
-    atomic { assert(lives[one]); assert(walkers[one] == 0); assert(one != current); lives[one] = false; is_over[one] = false }
+    atomic { assert(lives[one]); assert(walkers[one] == 0); assert(one != current); lives[one] = false }
 }
 
 /* With the lock. */
 inline begin_walk(over) {
     walk = over;
     assert(lives[walk]);
-    walks[walk]++;
+    users[walk]++;
     walkers[walk]++
 }
 
@@ -35,19 +35,19 @@ inline walk_on() {
 
 inline end_walk() {
 #ifdef ENDS_WALK_BY_TWO_STEPS
-    atomic { assert(lives[walk]); walks[walk]--; is_last = (walks[walk] == 0) };
-    atomic { assert(lives[walk]); walkers[walk]--; is_last = (is_last && is_over[walk]) };
+    atomic { assert(lives[walk]); users[walk]--; walkers[walk]-- };
+    atomic { assert(lives[walk]); is_last = (users[walk] == 0) };
 #else
     atomic {
         assert(lives[walk]);
-        walks[walk]--;
+        users[walk]--;
         walkers[walk]--;
 #ifdef LAST_WALK_FREES_NOTHING
         is_last = false
 #elif defined(EACH_WALK_FREES)
-        is_last = is_over[walk]
+        is_last = (walk != current)
 #else
-        is_last = (walks[walk] == 0 && is_over[walk])
+        is_last = (users[walk] == 0)
 #endif
     };
 #endif
@@ -61,16 +61,18 @@ inline end_walk() {
 /* `gone` is over: frees it, unless walks go on there. */
 inline drop() {
 #ifdef LOOKS_FOR_WALKS_LATER
-    atomic { assert(lives[gone]); is_over[gone] = true };
-    atomic { assert(lives[gone]); is_last = (walks[gone] == 0) };
+    atomic { assert(lives[gone]); users[gone]-- };
+    atomic { assert(lives[gone]); is_last = (users[gone] == 0) };
 #else
     atomic {
         assert(lives[gone]);
-        is_over[gone] = true;
+#ifndef OVER_BEFORE_EXCHANGE
+        users[gone]--;
+#endif
 #ifdef FREES_DURING_WALKS
         is_last = true
 #else
-        is_last = (walks[gone] == 0)
+        is_last = (users[gone] == 0)
 #endif
     };
 #endif
@@ -110,15 +112,18 @@ proctype thread() {
            :: !lives[3] -> fresh = 3
            :: alone = false; goto on /* memory is refused */
            fi;
-           lives[fresh] = true
+           lives[fresh] = true;
+           users[fresh] = 1
        };
 #ifdef OVER_BEFORE_EXCHANGE
-       is_over[current] = true;
+       users[current]--;
 #endif
        if
+#ifndef OVER_BEFORE_EXCHANGE
        :: atomic { gone = fresh; fresh = 0 }; /* gives up */
           drop();
           alone = false
+#endif
        :: atomic { exchange() }; /* renews */
           drop();
           alone = false
@@ -128,7 +133,8 @@ proctype thread() {
           drop();
           atomic { begin_walk(walk) };
 #else
-          atomic { begin_walk(current); exchange() };
+          atomic { begin_walk(current) };
+          atomic { exchange() };
           drop();
 #endif
           alone = false;
@@ -144,6 +150,7 @@ init {
     byte one;
     atomic {
         lives[0] = true;
+        users[0] = 1;
         for (one : 1 .. THREADS) { run thread() }
     };
     _nr_pr == 1; /* all threads have come to their end */

@@ -13,8 +13,9 @@
 #include "objects.h"
 #include <pthread.h>
 #include <stdatomic.h>
-#include <stdbool.h>
 #include <stddef.h>
+#include <stdlib.h>
+#include <string.h>
 
 #ifndef MOST_EXPONENT /* of a table: less for a test */
 #define MOST_EXPONENT SAMVOLIP_MAX_EXPONENT
@@ -36,7 +37,7 @@ enum { PARTS = 1 << PART_BITS, PLACES = 1 + PARTS };
 enum { SHARED = 6, COMMON = 1 + SHARED };
 
 enum { CELLS = 64 };  /* how many maps a thread knows its lane of; a map's cell goes by its id */
-enum { WALKED = 64 }; /* entries that a walk has taken from the core */
+enum { PIECE = 128 }; /* slots that are copied, listed or walked over at a time */
 enum { AGAIN = 2 };   /* beside the codes of a call: it is to be made again */
 
 /* A gate that is open is the map's id. FENCED is open where the system has no membarrier. A place that has no core is CLOSED. */
@@ -47,11 +48,9 @@ enum busy { REST, READS, WRITES, WAITS }; /* a busy word is one of these plus th
 /* A proved map of one table. */
 typedef struct core {
     samvolip_seat reserve; /* the seat that no lane has, by which walks are made, with the map's lock */
-    uint64_t walks;        /* that began here */
     uint64_t number;       /* of all cores of the process */
+    uint64_t users;        /* who renews or the map, and the walks that began here: the last one frees it */
     uint32_t exponent;
-    unsigned count;        /* of seats */
-    bool is_over;          /* another one is in its place: the last walk frees it */
     samvolip_seat seats[]; /* one for each lane */
 } core;
 
@@ -67,23 +66,21 @@ typedef struct lane {
     uint32_t left[PLACES][2];            /* keys that come, and that go, there until it looks how full the part is */
 } lane;
 
-/* Places that follow each other; and a set of places, a bit for each. */
+/* Places that follow each other, up to one before `end`; and a set of places, a bit for each. */
 typedef struct range {
-    unsigned first, count;
+    unsigned first, end;
 } range;
-typedef uint32_t place_set;
-static const place_set EVERYWHERE = (place_set)((UINT64_C(1) << PLACES) - 1);
+typedef uint64_t place_set;
+static const range EVERYWHERE = {0, PLACES};
 
-/* Work on all slots of some parts, which whoever waits does a piece of at a time. */
+/* Work on all slots of some parts, which whoever waits does a piece of at a time: their entries are copied, or listed. */
 typedef struct job {
-    struct job *after;    /* among the map's jobs */
-    range from;           /* the parts whose entries are copied or listed */
+    range from, to;      /* the parts that there are, and those that come in their place */
+    core *cores[PLACES]; /* to come, and after the exchange those that were */
     unsigned helpers;
-    atomic_size_t begun;  /* up to where pieces have been taken */
-    size_t size;
-    core *const *to;      /* the cores to come; NULL: the entries are listed */
-    unsigned count;       /* of these */
-    samvolip_entry *list;
+    atomic_size_t begun;  /* how many pieces were taken */
+    size_t size;          /* slots of the largest part */
+    samvolip_entry *list; /* NULL: they are copied to the cores to come */
     atomic_size_t listed;
     atomic_int refused;   /* why a core to come refused an entry */
 } job;
@@ -105,31 +102,30 @@ struct samvolip_map {
     _Alignas(128) pthread_mutex_t lock;
     pthread_cond_t turned; /* a gate, the work or who is alone has changed */
     atomic_uint told;      /* how often */
-    atomic_uint held;      /* the places with which somebody is alone, to renew, clear, count, list or fork */
-    job *jobs;             /* that are under way: who waits may help */
-    lane *lanes;
-    unsigned count;    /* of lanes */
-    atomic_uint taken; /* lanes with an owner */
-    uint64_t slots;    /* of the cores that there are, and of those to come */
+    _Atomic(place_set) held; /* the places with which somebody is alone, to renew, clear, count, list or fork */
+    job *jobs[PLACES];     /* under way there, in which who waits may help */
+    unsigned count;        /* of lanes */
+    atomic_uint taken;     /* lanes with an owner */
+    uint64_t slots;        /* of the cores that there are, and of those to come */
     samvolip_map_options options;
     samvolip_map_figures figures;
     void *(*let_go)(void); /* samvolip_map_lets_go; NULL: nothing is let go of */
     void (*take_back)(void *);
-    samvolip_map *after, *before; /* among all maps */
+    samvolip_map *after; /* among all maps */
+    lane lanes[];
 };
 
 _Static_assert(offsetof(samvolip_map, objects) == 0, "objects.c takes a map for its objects");
-_Static_assert(PLACES <= 32 && DIVIDED_FROM >= PART_BITS + 5, "a place_set has all places, and a part a table");
+_Static_assert(PLACES < 64 && DIVIDED_FROM >= PART_BITS + 5, "a place_set has all places, and a part a table");
 
 /* A walk over the cores that a map has at one moment, by their reserves. */
 struct samvolip_map_walk {
     samvolip_map *map;
-    core *cores[PARTS];
-    unsigned cores_count, core; /* how many they are; in which one the walk is */
-    samvolip_cursor cursor;
-    size_t slot; /* up to which that one was listed */
+    core *cores[PLACES];
+    unsigned place; /* in which it is */
+    size_t slot;    /* up to which that one was listed */
     size_t at, count;
-    samvolip_entry some[WALKED];
+    samvolip_entry some[PIECE];
 };
 
 #pragma GCC visibility push(hidden)
@@ -145,42 +141,38 @@ extern _Thread_local struct thread {
 
 /* lanes.c */
 extern pthread_mutex_t all_lock; /* is locked before a map's lock */
-void begin_lanes(void);
+void begin_all(void);
 void enlist(samvolip_map *map);
 void delist(samvolip_map *map);
-unsigned find_lane(const samvolip_map *map);
+unsigned find_lane(const samvolip_map *map, const struct thread *owner);
 part *enter_slowly(samvolip_map *map, unsigned what, unsigned share);
 void rest_lane(void);
-void *let_go(const samvolip_map *map);
-void take_back(const samvolip_map *map, void *held);
 
 /* gate.c */
-extern bool has_membarrier;
 void begin_gate(void);
-void tell(samvolip_map *map);
 void pause_for(unsigned turn);
-uint64_t nanoseconds(void);
 bool admits(const part *into, unsigned what);
 void open_gates(samvolip_map *map, range places);
 uint64_t stop(samvolip_map *map, range places, enum gate to);
 void go_on(samvolip_map *map, range places, uint64_t writes, uint64_t reads);
 void share_out(samvolip_map *map, job *job);
-void wait_or_help(samvolip_map *map, place_set places, unsigned mine);
-bool be_alone(samvolip_map *map, place_set places, const part *with, uint64_t number);
-void end_alone(samvolip_map *map, place_set places);
+void wait_or_help(samvolip_map *map, range places, unsigned mine);
+bool be_alone(samvolip_map *map, range places, const part *with, uint64_t number);
+void end_alone(samvolip_map *map, range places);
 
 /* renewal.c */
 extern const uint64_t MOST_ROOM;
-int open_cores(samvolip_map *map);
-void free_core(core *one);
+void free_core(const samvolip_map *map, core *one);
+void leave_cores(samvolip_map *map, core **cores, bool are_over);
 uint64_t keys_in(const samvolip_map *map, range places);
-int clear(samvolip_map *map, samvolip_map_walk *walk);
+int put_empty_cores(samvolip_map *map, range from);
 int renew_by_hand(samvolip_map *map, uint64_t room);
-int end_write(samvolip_map *map, part *in, int code, bool looks);
+int end_call(samvolip_map *map, part *in, int code, bool looks);
 
 /* walks.c */
+uint64_t list_piece(samvolip_seat *seat, size_t from, samvolip_entry *entries);
 void begin_walk(samvolip_map_walk *walk, samvolip_map *map);
-int show_all(samvolip_map_walk *walk, samvolip_map_visit *visit, void *context);
+void show_all(samvolip_map_walk *walk, samvolip_map_visit *visit, void *context);
 
 #pragma GCC visibility pop
 
@@ -236,9 +228,10 @@ static inline part *part_of(samvolip_map *map, unsigned share)
 static inline unsigned place_of(const samvolip_map *map, const part *one) { return (unsigned)(one - map->parts); }
 
 /* Where a map has its parts, if it is divided or not. */
-static inline range places_if(bool is_divided) { return is_divided ? (range){1, PARTS} : (range){0, 1}; }
+static inline range places_if(bool is_divided) { return is_divided ? (range){1, PLACES} : (range){0, 1}; }
 static inline range parts_of(const samvolip_map *map) { return places_if(map->is_divided); }
-static inline place_set set_of(range places) { return ((UINT32_C(1) << places.count) - 1) << places.first; }
+static inline range only(unsigned place) { return (range){place, place + 1}; }
+static inline place_set set_of(range places) { return (UINT64_C(1) << places.end) - (UINT64_C(1) << places.first); }
 
 static inline uint64_t slots_of(uint32_t exponent) { return UINT64_C(1) << exponent; }
 static inline uint64_t greater(uint64_t one, uint64_t other) { return one > other ? one : other; }
@@ -280,8 +273,8 @@ static inline samvolip_seat *enter_at_once(samvolip_map *map, part *into, unsign
 }
 
 /* During a call: the lane by which it is made, and its seat. */
-static inline lane *used_lane(const samvolip_map *map) { return UNLIKELY(here.shared != NULL) ? here.shared : &map->lanes[here.lanes[map->cell]]; }
-static inline samvolip_seat *used_seat(const samvolip_map *map, const part *in) { return &in->core->seats[used_lane(map) - map->lanes]; }
+static inline lane *used_lane(samvolip_map *map) { return UNLIKELY(here.shared != NULL) ? here.shared : &map->lanes[here.lanes[map->cell]]; }
+static inline samvolip_seat *used_seat(samvolip_map *map, const part *in) { return &in->core->seats[used_lane(map) - map->lanes]; }
 
 /* During a write by this lane, after which a key has come or gone: whether it is time to look how full the part is. */
 static inline bool counts_down(const samvolip_map *map, lane *used, const part *in, enum change change)
@@ -291,21 +284,20 @@ static inline bool counts_down(const samvolip_map *map, lane *used, const part *
     return left[change]-- == 0;
 }
 
+/* Around what may take long in a call of one key: the caller lets go of what others may want. Nothing of the map is held meanwhile. */
+static inline void *let_go(const samvolip_map *map) { return map->let_go ? map->let_go() : NULL; }
+
+static inline void take_back(const samvolip_map *map, void *held)
+{
+    if (map->take_back)
+        map->take_back(held);
+}
+
 static inline void leave(void)
 {
     if (UNLIKELY(atomic_load_explicit(&here.busy, memory_order_relaxed) == WAITS))
         rest_lane();
     go_outside();
-}
-
-/* Begins a call that is alone with the whole map. */
-static inline bool begin_alone(samvolip_map *map) { return go_inside() && be_alone(map, EVERYWHERE, NULL, 0); }
-
-static inline int finish_alone(samvolip_map *map, int code)
-{
-    end_alone(map, EVERYWHERE);
-    go_outside();
-    return code;
 }
 
 #endif

@@ -2,13 +2,10 @@
 #include "endless.h"
 #include <linux/membarrier.h>
 #include <sched.h>
-#include <stdlib.h>
-#include <string.h>
 #include <sys/syscall.h>
 #include <time.h>
 #include <unistd.h>
 
-enum { PIECE = 128 }; /* slots that are copied or listed at a time */
 enum { AWAKE = 160 }; /* for how many turns who waits doesn't sleep */
 
 bool has_membarrier;
@@ -22,7 +19,7 @@ void begin_gate(void)
 }
 
 /* A full fence in this thread, and in all others that run. Without membarrier calls have their own: they enter slowly. */
-static void heavy_fence(void)
+void heavy_fence(void)
 {
     if (has_membarrier && syscall(__NR_membarrier, MEMBARRIER_CMD_PRIVATE_EXPEDITED, 0, 0) != 0)
         abort();
@@ -46,7 +43,7 @@ uint64_t nanoseconds(void)
 }
 
 /* With the lock: a gate, the work or who is alone has changed. */
-void tell(samvolip_map *map)
+static void tell(samvolip_map *map)
 {
     map->told++;
     pthread_cond_broadcast(&map->turned);
@@ -79,7 +76,7 @@ static bool is_busy(const samvolip_map *map, unsigned i, range places, unsigned 
     const struct thread *owner = atomic_load(&one->owner);
     uintptr_t word = atomic_load(owner ? &owner->busy : &one->busy);
     uintptr_t from = word - (uintptr_t)&map->parts[places.first];
-    return from % sizeof(part) == what && from / sizeof(part) < places.count;
+    return from % sizeof(part) == what && from / sizeof(part) < places.end - places.first;
 }
 
 /* Alone with these places: closes their gates, and says since when. Afterwards all writes, or all calls, have come to their end there.
@@ -89,8 +86,8 @@ uint64_t stop(samvolip_map *map, range places, enum gate to)
 {
     uint64_t since = nanoseconds();
     lock(map);
-    for (unsigned i = 0; i < places.count; i++)
-        atomic_store(&map->parts[places.first + i].gate, to);
+    for (unsigned place = places.first; place < places.end; place++)
+        atomic_store(&map->parts[place].gate, to);
     heavy_fence();
     for (unsigned i = 0; i < map->count; i++)
         for (unsigned turn = 0; is_busy(map, i, places, WRITES) || (to == CLOSED && is_busy(map, i, places, READS)); turn++)
@@ -102,8 +99,8 @@ uint64_t stop(samvolip_map *map, range places, enum gate to)
 /* With the lock. */
 void open_gates(samvolip_map *map, range places)
 {
-    for (unsigned i = 0; i < places.count; i++)
-        atomic_store(&map->parts[places.first + i].gate, has_membarrier ? map->id : FENCED);
+    for (unsigned place = places.first; place < places.end; place++)
+        atomic_store(&map->parts[place].gate, has_membarrier ? map->id : FENCED);
     tell(map);
 }
 
@@ -119,67 +116,44 @@ void go_on(samvolip_map *map, range places, uint64_t writes, uint64_t reads)
 
 /* ---- work that is shared out --------------------------------------------------------------- */
 
-/* How many slots a core has, in whole pieces, so that no piece is of two cores. */
-static size_t pieces_in(const core *one) { return (slots_of(one->exponent) + PIECE - 1) / PIECE * PIECE; }
-
-/* The core in which the slot `*at` of the job is, which it becomes a slot of. */
-static core *core_at(const samvolip_map *map, const job *job, size_t *at)
-{
-    unsigned place = job->from.first;
-    for (size_t size; *at >= (size = pieces_in(map->parts[place].core)); place++)
-        *at -= size;
-    return map->parts[place].core;
-}
-
 /* Puts entries into the cores to come, by a lane's seats. */
 static void copy_entries(const samvolip_map *map, job *job, unsigned lane, const samvolip_entry *entries, uint64_t count)
 {
+    bool divides = job->to.end - job->to.first > 1;
     for (uint64_t i = 0; i < count; i++) {
-        core *to = job->to[job->count > 1 ? share_of(map, entries[i].key) : 0];
+        core *to = job->cores[job->to.first + (divides ? share_of(map, entries[i].key) : 0)];
         int code = samvolip_put_if_absent(&to->seats[lane], entries[i].key, entries[i].number, NULL);
         if (code != SAMVOLIP_ABSENT)
             atomic_store(&job->refused, code < 0 ? code : SAMVOLIP_E_LOST);
     }
 }
 
-/* Takes pieces of the work as long as there are any, and does them by a lane's seats. A piece has no more keys than slots. */
+/* Takes pieces of the work, of the parts by turns, as long as there are any, and does them by a lane's seats. */
 static void do_pieces(const samvolip_map *map, job *job, unsigned lane)
 {
     samvolip_entry some[PIECE];
-    samvolip_cursor cursor;
-    uint64_t count;
-    size_t from;
-    while (atomic_load(&job->refused) == 0 && (from = atomic_fetch_add(&job->begun, PIECE)) < job->size) {
-        samvolip_seat *seat = &core_at(map, job, &from)->seats[lane];
-        samvolip_walk_from(seat, from, &cursor);
-        samvolip_list(seat, &cursor, from + PIECE, some, PIECE, &count);
-        if (!job->list) {
+    size_t parts = job->from.end - job->from.first, piece;
+    while (atomic_load(&job->refused) == 0 && (piece = atomic_fetch_add(&job->begun, 1)) / parts * PIECE < job->size) {
+        core *of = map->parts[job->from.first + piece % parts].core;
+        uint64_t count = list_piece(&of->seats[lane], piece / parts * PIECE, some);
+        if (job->list) {
+            outer_keys(map, some, count);
+            memcpy(job->list + atomic_fetch_add(&job->listed, count), some, count * sizeof *some);
+        } else {
             copy_entries(map, job, lane, some, count);
-            continue;
         }
-        outer_keys(map, some, count);
-        memcpy(job->list + atomic_fetch_add(&job->listed, count), some, count * sizeof *some);
     }
 }
 
-/* With the lock: from now on nobody begins to help with a job. */
-static void take_off(samvolip_map *map, const job *job)
-{
-    struct job **at = &map->jobs;
-    while (*at && *at != job)
-        at = &(*at)->after;
-    if (*at)
-        *at = job->after;
-}
-
-/* With the lock: helps until no piece is left. */
+/* With the lock: helps until no piece is left. From then on nobody begins to. */
 static void help(samvolip_map *map, job *job, unsigned lane)
 {
     job->helpers++;
     unlock(map);
     do_pieces(map, job, lane);
     lock(map);
-    take_off(map, job);
+    for (unsigned place = job->from.first; place < job->from.end; place++)
+        map->jobs[place] = NULL;
     if (--job->helpers == 0)
         tell(map);
 }
@@ -187,11 +161,11 @@ static void help(samvolip_map *map, job *job, unsigned lane)
 /* Alone, and writes wait: does it all, with those who wait. */
 void share_out(samvolip_map *map, job *job)
 {
-    for (unsigned i = 0; i < job->from.count; i++)
-        job->size += pieces_in(map->parts[job->from.first + i].core);
     lock(map);
-    job->after = map->jobs;
-    map->jobs = job;
+    for (unsigned place = job->from.first; place < job->from.end; place++) {
+        job->size = greater(job->size, slots_of(map->parts[place].core->exponent));
+        map->jobs[place] = job;
+    }
     tell(map);
     help(map, job, 0);
     while (job->helpers > 0)
@@ -200,11 +174,11 @@ void share_out(samvolip_map *map, job *job)
 }
 
 /* With the lock: waits until something has changed; or helps meanwhile in one of these places, by a lane of the thread's own. */
-void wait_or_help(samvolip_map *map, place_set places, unsigned mine)
+void wait_or_help(samvolip_map *map, range places, unsigned mine)
 {
-    job *one = map->jobs;
-    while (one && !(set_of(one->from) & places))
-        one = one->after;
+    job *one = NULL;
+    for (unsigned place = places.first; place < places.end && !one; place++)
+        one = map->jobs[place];
     if (one && mine)
         help(map, one, mine);
     else
@@ -215,22 +189,22 @@ void wait_or_help(samvolip_map *map, place_set places, unsigned mine)
 
 /* Inside: makes this thread the only one that renews, clears, counts, lists or forks in these places. If somebody else does, it waits;
    and with a part to renew, only as long as that has the core of this number. */
-bool be_alone(samvolip_map *map, place_set places, const part *with, uint64_t number)
+bool be_alone(samvolip_map *map, range places, const part *with, uint64_t number)
 {
     lock(map);
     bool is = true;
-    while ((is = !with || (with->core && with->core->number == number)) && (map->held & places) != 0)
-        wait_or_help(map, places, find_lane(map));
+    while ((is = !with || (with->core && with->core->number == number)) && (map->held & set_of(places)))
+        wait_or_help(map, places, find_lane(map, &here));
     if (is)
-        map->held |= places;
+        map->held |= set_of(places);
     unlock(map);
     return is;
 }
 
-void end_alone(samvolip_map *map, place_set places)
+void end_alone(samvolip_map *map, range places)
 {
     lock(map);
-    map->held &= ~places;
+    map->held &= ~set_of(places);
     tell(map);
     unlock(map);
 }

@@ -1,7 +1,6 @@
 /* lanes.c - which thread has which lane of a map, how a call begins but in the common case, and what becomes of lanes at a thread's
    end and at a fork. */
 #include "endless.h"
-#include <stdlib.h>
 
 #define SHARES (UINT64_C(1) << 63) /* beside a map's id in a thread's cell: it has no lane of its own there */
 
@@ -13,28 +12,27 @@ static pthread_key_t at_end;
 
 /* ---- lanes of one owner -------------------------------------------------------------------- */
 
-/* This thread's own lane, or 0. */
-unsigned find_lane(const samvolip_map *map)
+/* The lane of this owner, or 0. */
+unsigned find_lane(const samvolip_map *map, const struct thread *owner)
 {
     for (unsigned i = COMMON; i < map->count; i++)
-        if (map->lanes[i].owner == &here)
+        if (map->lanes[i].owner == owner)
             return i;
     return 0;
 }
 
-/* Gives this thread a lane of its own, if there is one that nobody has. */
+/* Gives this thread a lane of its own, if there is one that nobody has. It looks soon how full the parts are. */
 static COLD unsigned arrive(samvolip_map *map)
 {
-    unsigned mine = 0;
     if (here.is_over || pthread_setspecific(at_end, &here) != 0)
         return 0;
     lock(map); /* nobody takes memory with it, so that a handler which waits for it may have interrupted malloc */
-    for (unsigned i = COMMON; i < map->count && mine == 0; i++)
-        if (!map->lanes[i].owner) {
-            map->lanes[i].owner = &here;
-            map->taken++;
-            mine = i;
-        }
+    unsigned mine = find_lane(map, NULL);
+    if (mine) {
+        map->lanes[mine].owner = &here;
+        memset(map->lanes[mine].left, 0, sizeof map->lanes[mine].left);
+        map->taken++;
+    }
     unlock(map);
     return mine;
 }
@@ -45,7 +43,7 @@ static unsigned own_lane(samvolip_map *map)
     uint64_t *id = &here.ids[map->cell];
     if (*id == map->id)
         return here.lanes[map->cell];
-    unsigned mine = *id == (map->id | SHARES) ? 0 : find_lane(map);
+    unsigned mine = *id == (map->id | SHARES) ? 0 : find_lane(map, &here);
     if (mine == 0 && map->taken < map->count - COMMON)
         mine = arrive(map);
     here.lanes[map->cell] = (uint8_t)mine;
@@ -57,7 +55,7 @@ static unsigned own_lane(samvolip_map *map)
 static void give_back(samvolip_map *map)
 {
     lock(map);
-    unsigned mine = find_lane(map);
+    unsigned mine = find_lane(map, &here);
     if (mine) {
         map->lanes[mine].owner = NULL;
         map->taken--;
@@ -69,10 +67,10 @@ static void give_back(samvolip_map *map)
 
 void samvolip_map_leave(samvolip_map *map)
 {
-    if (!go_inside())
-        return;
-    give_back(map);
-    go_outside();
+    if (go_inside()) {
+        give_back(map);
+        go_outside();
+    }
 }
 
 static void thread_ends(void *unused)
@@ -90,16 +88,14 @@ static void thread_ends(void *unused)
 /* ---- how a call begins slowly -------------------------------------------------------------- */
 
 /* Takes one of the lanes that threads share, until leave or rest_lane. */
-static unsigned take_shared(samvolip_map *map, uintptr_t word)
+static void take_shared(samvolip_map *map, uintptr_t word)
 {
-    for (unsigned turn = 0;; turn++) {
-        unsigned i = 1 + (unsigned)(((uintptr_t)&here / 4096 + turn) % SHARED);
+    for (unsigned turn = 0; !here.shared; turn++) {
+        lane *one = &map->lanes[1 + ((uintptr_t)&here / 4096 + turn) % SHARED];
         uintptr_t none = REST;
-        if (atomic_compare_exchange_strong(&map->lanes[i].busy, &none, word)) {
-            here.shared = &map->lanes[i];
-            return i;
-        }
-        if (turn % SHARED == SHARED - 1)
+        if (atomic_compare_exchange_strong(&one->busy, &none, word))
+            here.shared = one;
+        else if (turn % SHARED == SHARED - 1)
             pause_for(turn / SHARED);
     }
 }
@@ -113,30 +109,12 @@ void rest_lane(void)
     atomic_store(&here.busy, WAITS);
 }
 
-/* Around what may take long in a call of one key: the caller lets go of what others may want. Nothing of the map is held meanwhile. */
-void *let_go(const samvolip_map *map) { return map->let_go ? map->let_go() : NULL; }
-
-void take_back(const samvolip_map *map, void *held)
-{
-    if (map->take_back)
-        map->take_back(held);
-}
-
-/* Inside, by no lane: waits until the gate lets such calls in, and helps meanwhile if it has a lane. */
-static void wait_for_gate(samvolip_map *map, unsigned what, unsigned share, unsigned mine)
-{
-    void *held = let_go(map);
-    const part *into;
-    lock(map);
-    while (!admits(into = part_of(map, share), what))
-        wait_or_help(map, set_of((range){place_of(map, into), 1}), mine);
-    unlock(map);
-    take_back(map, held);
-}
-
-/* Inside: begins a call in the part that has this share, but in the common case. */
+/* Begins a call in the part that has this share, but in the common case; NULL within another call. While the gate doesn't let it in it
+   waits by no lane, and helps if it has one. */
 COLD part *enter_slowly(samvolip_map *map, unsigned what, unsigned share)
 {
+    if (!go_inside())
+        return NULL;
     for (;;) {
         unsigned mine = own_lane(map);
         part *into = part_of(map, share);
@@ -147,7 +125,12 @@ COLD part *enter_slowly(samvolip_map *map, unsigned what, unsigned share)
         if (admits(into, what))
             return into;
         rest_lane();
-        wait_for_gate(map, what, share, mine);
+        void *held = let_go(map);
+        lock(map);
+        while (!admits(into = part_of(map, share), what))
+            wait_or_help(map, only(place_of(map, into)), mine);
+        unlock(map);
+        take_back(map, held);
     }
 }
 
@@ -186,18 +169,19 @@ static void after_fork_in_child(void)
         pthread_mutex_init(&map->lock, NULL);
         pthread_cond_init(&map->turned, NULL);
         lock(map);
-        unsigned mine = find_lane(map);
-        for (unsigned i = 0; i < map->count; i++) {
-            map->lanes[i].busy = REST; /* a thread may have been about to look at the gate */
-            map->lanes[i].owner = i > 0 && i == mine ? &here : NULL;
+        for (lane *one = map->lanes; one < map->lanes + map->count; one++) {
+            one->busy = REST; /* a thread may have been about to look at the gate */
+            if (one->owner != &here)
+                one->owner = NULL;
         }
-        map->taken = mine != 0;
+        map->taken = find_lane(map, &here) != 0;
     }
     after_fork();
 }
 
-void begin_lanes(void)
+void begin_all(void)
 {
+    begin_gate();
     if (pthread_key_create(&at_end, thread_ends) != 0 || pthread_atfork(before_fork, after_fork, after_fork_in_child) != 0)
         abort();
 }
@@ -207,17 +191,16 @@ void enlist(samvolip_map *map)
 {
     pthread_mutex_lock(&all_lock);
     map->after = maps;
-    if (maps)
-        maps->before = map;
     maps = map;
     pthread_mutex_unlock(&all_lock);
 }
 
 void delist(samvolip_map *map)
 {
+    samvolip_map **at = &maps;
     pthread_mutex_lock(&all_lock);
-    *(map->before ? &map->before->after : &maps) = map->after;
-    if (map->after)
-        map->after->before = map->before;
+    while (*at != map)
+        at = &(*at)->after;
+    *at = map->after;
     pthread_mutex_unlock(&all_lock);
 }

@@ -1,25 +1,23 @@
 /* map.c - the calls of samvolip_map.h for one key, and the beginning and the end of a map. endless.h says what these stand on. */
 #include "endless.h"
-#include <stdlib.h>
-#include <string.h>
 #include <sys/random.h>
 
 /* ---- calls --------------------------------------------------------------------------------- */
 
-/* A write of this name, which is `call` by `seat`; and after a renewal, if the part was full, all of it again. `change` says by its
-   code whether a key comes or goes. What isn't the common case stands apart, so that this takes few instructions. */
-#define WRITE(name, parameters, words, call, change)                                                                                 \
+/* A call of this name, which READS or WRITES: it is `call` by `seat`; and after a renewal, if the part was full, all of it again. `change`
+   says by its code whether a key comes or goes. What isn't the common case stands apart, so that this takes few instructions. */
+#define CALL(what, name, parameters, words, call, change)                                                                            \
     static COLD int name##_slowly parameters                                                                                         \
     {                                                                                                                                \
         uint64_t inner = inner_key(map, key), found __attribute__((unused));                                                         \
         int code = AGAIN;                                                                                                            \
         while (code == AGAIN) {                                                                                                      \
-            if (!go_inside())                                                                                                        \
+            part *into = enter_slowly(map, what, share_of(map, inner));                                                              \
+            if (!into)                                                                                                               \
                 return SAMVOLIP_E_NESTED;                                                                                            \
-            part *into = enter_slowly(map, WRITES, share_of(map, inner));                                                            \
             samvolip_seat *seat = used_seat(map, into);                                                                              \
             code = call;                                                                                                             \
-            code = end_write(map, into, code, (change) != STAYS && counts_down(map, used_lane(map), into, change));                  \
+            code = end_call(map, into, code, (change) != STAYS && counts_down(map, used_lane(map), into, change));                   \
         }                                                                                                                            \
         return code;                                                                                                                 \
     }                                                                                                                                \
@@ -27,44 +25,23 @@
     {                                                                                                                                \
         uint64_t inner = mixed_once(map, key), found __attribute__((unused));                                                        \
         part *into = part_of(map, share_of(map, inner));                                                                             \
-        samvolip_seat *seat = LIKELY(inner <= SAMVOLIP_KEY_MAX) ? enter_at_once(map, into, WRITES) : NULL;                           \
+        samvolip_seat *seat = LIKELY(inner <= SAMVOLIP_KEY_MAX) ? enter_at_once(map, into, what) : NULL;                             \
         if (UNLIKELY(!seat))                                                                                                         \
             return name##_slowly words;                                                                                              \
         int code = call;                                                                                                             \
         bool looks = (change) != STAYS && UNLIKELY(counts_down(map, &map->lanes[here.lanes[map->cell]], into, change));              \
-        if (LIKELY(code >= 0 && !looks)) {                                                                                           \
+        if (LIKELY((what == READS || code >= 0) && !looks)) {                                                                        \
             go_outside();                                                                                                            \
             return code;                                                                                                             \
         }                                                                                                                            \
-        code = end_write(map, into, code, looks);                                                                                    \
+        code = end_call(map, into, code, looks);                                                                                     \
         return UNLIKELY(code == AGAIN) ? name##_slowly words : code;                                                                 \
     }
 #define KEY samvolip_map *map, uint64_t key
 #define COMES_IF_ABSENT (code == SAMVOLIP_ABSENT ? COMES : STAYS)
 #define GOES_IF_PRESENT (code == SAMVOLIP_PRESENT ? GOES : STAYS)
 
-static COLD int get_slowly(samvolip_map *map, uint64_t key, uint64_t *number)
-{
-    uint64_t inner = inner_key(map, key);
-    if (!go_inside())
-        return SAMVOLIP_E_NESTED;
-    const part *into = enter_slowly(map, READS, share_of(map, inner));
-    int code = samvolip_get(used_seat(map, into), inner, number);
-    leave();
-    return code;
-}
-
-int samvolip_map_get(samvolip_map *map, uint64_t key, uint64_t *number)
-{
-    uint64_t inner = mixed_once(map, key);
-    part *into = part_of(map, share_of(map, inner));
-    samvolip_seat *seat = LIKELY(inner <= SAMVOLIP_KEY_MAX) ? enter_at_once(map, into, READS) : NULL;
-    if (UNLIKELY(!seat))
-        return get_slowly(map, key, number);
-    int code = samvolip_get(seat, inner, number);
-    go_outside();
-    return code;
-}
+CALL(READS, get, (KEY, uint64_t *number), (map, key, number), samvolip_get(seat, inner, number), STAYS)
 
 int samvolip_map_contains(samvolip_map *map, uint64_t key)
 {
@@ -72,27 +49,27 @@ int samvolip_map_contains(samvolip_map *map, uint64_t key)
     return samvolip_map_get(map, key, &number);
 }
 
-WRITE(put, (KEY, uint64_t number, uint64_t *before), (map, key, number, before), samvolip_try_put(seat, inner, number, 1, before ? before : &found), COMES_IF_ABSENT)
+CALL(WRITES, put, (KEY, uint64_t number, uint64_t *before), (map, key, number, before), samvolip_try_put(seat, inner, number, 1, before ? before : &found), COMES_IF_ABSENT)
 
-WRITE(put_if_absent, (KEY, uint64_t number, uint64_t *before), (map, key, number, before), samvolip_try_put_if_absent(seat, inner, number, 1, before ? before : &found), COMES_IF_ABSENT)
+CALL(WRITES, put_if_absent, (KEY, uint64_t number, uint64_t *before), (map, key, number, before), samvolip_try_put_if_absent(seat, inner, number, 1, before ? before : &found), COMES_IF_ABSENT)
 
-WRITE(get_or_insert, (KEY, uint64_t number, uint64_t *there), (map, key, number, there), samvolip_get_or_insert(seat, inner, number, there), COMES_IF_ABSENT)
+CALL(WRITES, get_or_insert, (KEY, uint64_t number, uint64_t *there), (map, key, number, there), samvolip_get_or_insert(seat, inner, number, there), COMES_IF_ABSENT)
 
-WRITE(fetch_max, (KEY, uint64_t number, uint64_t *before), (map, key, number, before), samvolip_fetch_max(seat, inner, number, before), COMES_IF_ABSENT)
+CALL(WRITES, fetch_max, (KEY, uint64_t number, uint64_t *before), (map, key, number, before), samvolip_fetch_max(seat, inner, number, before), COMES_IF_ABSENT)
 
-WRITE(fetch_min, (KEY, uint64_t number, uint64_t *before), (map, key, number, before), samvolip_fetch_min(seat, inner, number, before), COMES_IF_ABSENT)
+CALL(WRITES, fetch_min, (KEY, uint64_t number, uint64_t *before), (map, key, number, before), samvolip_fetch_min(seat, inner, number, before), COMES_IF_ABSENT)
 
-WRITE(add, (KEY, uint64_t number, uint64_t *before), (map, key, number, before), samvolip_try_add(seat, inner, number, 1, before ? before : &found), COMES_IF_ABSENT)
+CALL(WRITES, add, (KEY, uint64_t number, uint64_t *before), (map, key, number, before), samvolip_try_add(seat, inner, number, 1, before ? before : &found), COMES_IF_ABSENT)
 
-WRITE(replace, (KEY, uint64_t number, uint64_t *before), (map, key, number, before), samvolip_replace(seat, inner, number, before), STAYS)
+CALL(WRITES, replace, (KEY, uint64_t number, uint64_t *before), (map, key, number, before), samvolip_replace(seat, inner, number, before), STAYS)
 
-WRITE(replace_if, (KEY, uint64_t old, uint64_t number), (map, key, old, number), samvolip_replace_if(seat, inner, old, number), STAYS)
+CALL(WRITES, replace_if, (KEY, uint64_t old, uint64_t number), (map, key, old, number), samvolip_replace_if(seat, inner, old, number), STAYS)
 
-WRITE(remove, (KEY, uint64_t *before), (map, key, before), samvolip_try_remove(seat, inner, 1, before ? before : &found), GOES_IF_PRESENT)
+CALL(WRITES, remove, (KEY, uint64_t *before), (map, key, before), samvolip_try_remove(seat, inner, 1, before ? before : &found), GOES_IF_PRESENT)
 
-WRITE(remove_if, (KEY, uint64_t number), (map, key, number), samvolip_remove_if(seat, inner, number), GOES_IF_PRESENT)
+CALL(WRITES, remove_if, (KEY, uint64_t number), (map, key, number), samvolip_remove_if(seat, inner, number), GOES_IF_PRESENT)
 
-WRITE(compare_exchange, (KEY, const uint64_t *expected, const uint64_t *next, samvolip_reply *reply), (map, key, expected, next, reply), samvolip_compare_exchange(seat, inner, expected, next, 1, reply), code < 0 || !reply->matched || !expected == !next ? STAYS : next ? COMES : GOES)
+CALL(WRITES, compare_exchange, (KEY, const uint64_t *expected, const uint64_t *next, samvolip_reply *reply), (map, key, expected, next, reply), samvolip_compare_exchange(seat, inner, expected, next, 1, reply), code < 0 || !reply->matched || !expected == !next ? STAYS : next ? COMES : GOES)
 
 int samvolip_map_update(samvolip_map *map, uint64_t key, samvolip_updater *updater, void *context, uint64_t *before)
 {
@@ -112,14 +89,6 @@ int samvolip_map_update(samvolip_map *map, uint64_t key, samvolip_updater *updat
 }
 
 /* ---- beginning and end --------------------------------------------------------------------- */
-
-static pthread_once_t once = PTHREAD_ONCE_INIT;
-
-static void begin(void)
-{
-    begin_gate();
-    begin_lanes();
-}
 
 /* The mixing of a new map. Without a source of secrets it goes by the time and the place. */
 static mixing new_mixing(uint32_t keys, const samvolip_map *map)
@@ -154,26 +123,21 @@ static samvolip_map *new_map(const samvolip_map_options *options)
 {
     static atomic_ullong next_id = FIRST_ID;
     unsigned count = COMMON + options->threads;
-    samvolip_map *map = aligned_alloc(_Alignof(samvolip_map), sizeof *map);
-    lane *lanes = aligned_alloc(_Alignof(lane), count * sizeof *lanes);
-    if (!map || !lanes) {
-        free(map);
-        free(lanes);
+    size_t size = sizeof(samvolip_map) + count * sizeof(lane);
+    samvolip_map *map = aligned_alloc(_Alignof(samvolip_map), size);
+    if (!map)
         return NULL;
-    }
     bool is_mixed = options->keys != SAMVOLIP_KEYS_AS_THEY_ARE;
-    memset(map, 0, sizeof *map);
-    memset(lanes, 0, count * sizeof *lanes);
+    memset(map, 0, size);
     map->id = atomic_fetch_add(&next_id, 1);
     map->cell = map->id % CELLS;
-    map->lanes = lanes;
     map->count = count;
     map->options = *options;
     map->mixes_below = is_mixed ? SAMVOLIP_KEY_MAX + 1 : 0;
     map->mixing = new_mixing(options->keys, map);
     map->spread = is_mixed ? 1 : SAMVOLIP_MIX_FACTOR;
-    for (unsigned i = 0; i < PLACES; i++)
-        map->parts[i].gate = CLOSED;
+    for (unsigned place = 0; place < PLACES; place++)
+        map->parts[place].gate = CLOSED;
     pthread_mutex_init(&map->lock, NULL);
     pthread_cond_init(&map->turned, NULL);
     return map;
@@ -181,33 +145,32 @@ static samvolip_map *new_map(const samvolip_map_options *options)
 
 static void free_map(samvolip_map *map)
 {
-    for (unsigned i = 0; i < PLACES; i++)
-        if (map->parts[i].core)
-            free_core(map->parts[i].core);
+    for (unsigned place = 0; place < PLACES; place++)
+        free_core(map, map->parts[place].core);
     pthread_cond_destroy(&map->turned);
     pthread_mutex_destroy(&map->lock);
-    free(map->lanes);
     free(map);
 }
 
 int samvolip_map_open_with(uint32_t version, size_t options_size, size_t figures_size, const samvolip_map_options *options, samvolip_map **made)
 {
+    static pthread_once_t once = PTHREAD_ONCE_INIT;
     samvolip_map_options read;
     if (version >> 8 != SAMVOLIP_VERSION >> 8 || version > SAMVOLIP_VERSION || options_size != sizeof read
         || figures_size != sizeof(samvolip_map_figures))
         return SAMVOLIP_E_VERSION;
     if (!read_options(options, &read))
         return SAMVOLIP_E_OPTIONS;
-    pthread_once(&once, begin);
+    pthread_once(&once, begin_all);
     samvolip_map *map = new_map(&read);
     if (!map)
         return SAMVOLIP_E_OUT_OF_MEMORY;
-    int code = open_cores(map);
+    int code = put_empty_cores(map, (range){0, 0});
     if (code < 0) {
         free_map(map);
         return code;
     }
-    open_gates(map, parts_of(map));
+    map->figures = (samvolip_map_figures){0};
     enlist(map);
     objects_begin(&map->objects);
     *made = map;

@@ -9,15 +9,9 @@
    full fence between its note and its first look at the map, and who collects one between the stamps and his look at the notes. A pin
    has none: membarrier gives it to all threads that run. So either the note is seen, or else what the pin gets comes after the fence,
    when the object was out. ../model/pins.pml is this for spin. */
-#define _GNU_SOURCE
 #include "objects.h"
-#include <linux/membarrier.h>
 #include <pthread.h>
-#include <stdbool.h>
 #include <stdlib.h>
-#include <sys/syscall.h>
-#include <time.h>
-#include <unistd.h>
 
 #define UNLIKELY(x) __builtin_expect(!!(x), 0)
 
@@ -56,21 +50,6 @@ static pthread_mutex_t lock = PTHREAD_MUTEX_INITIALIZER; /* of what all maps hav
 static objects *maps;
 static uint64_t opened;
 static pthread_key_t at_end;
-static bool has_membarrier;
-
-/* A full fence in all threads that run. Without membarrier each pin has its own, and who collects that of the lock. */
-static void heavy_fence(void)
-{
-    if (has_membarrier && syscall(__NR_membarrier, MEMBARRIER_CMD_PRIVATE_EXPEDITED, 0, 0) != 0)
-        abort();
-}
-
-static uint64_t now(void)
-{
-    struct timespec at;
-    clock_gettime(CLOCK_MONOTONIC, &at);
-    return (uint64_t)at.tv_sec * 1000000000u + (uint64_t)at.tv_nsec;
-}
 
 static inline objects *of_map(samvolip_map *map) { return (objects *)map; }
 
@@ -198,7 +177,7 @@ static void queue(objects *of, place *by)
     if (!one)
         return;
     one->after = NULL;
-    one->queued_at = now();
+    one->queued_at = nanoseconds();
     one->stamp = atomic_fetch_add(&of->clock, 1) + 1;
     *of->last = one;
     of->last = &one->after;
@@ -250,7 +229,7 @@ static void collect(objects *of)
     if (here.frees)
         return;
     uint64_t stamp = atomic_load(&of->clock);
-    heavy_fence();
+    heavy_fence(); /* without membarrier each pin has its own, and the lock is this one's */
     begin_locked();
     batch *taken = dequeue(of, earliest(of, stamp));
     end_locked();
@@ -329,7 +308,7 @@ int samvolip_map_look_at_objects(samvolip_map *map, samvolip_object_figures *fig
     batch *kept = of->first;
     while (kept && kept->stamp <= note)
         kept = kept->after;
-    *figures = (samvolip_object_figures){retired, retired - freed, kept ? now() - kept->queued_at : 0};
+    *figures = (samvolip_object_figures){retired, retired - freed, kept ? nanoseconds() - kept->queued_at : 0};
     end_locked();
     return SAMVOLIP_OK;
 }
@@ -364,8 +343,6 @@ static void before_fork(void) { begin_locked(); }
 static void after_fork_in_child(void)
 {
     pthread_mutex_init(&lock, NULL);
-    if (has_membarrier)
-        syscall(__NR_membarrier, MEMBARRIER_CMD_REGISTER_PRIVATE_EXPEDITED, 0, 0);
     for (objects *of = maps; of; of = of->after)
         for (place *one = of->places; one; one = one->after)
             if (one->owner && one->owner != &here && one->owner != one) {
@@ -378,9 +355,6 @@ static void after_fork_in_child(void)
 
 static void begin(void)
 {
-#ifndef NO_MEMBARRIER
-    has_membarrier = syscall(__NR_membarrier, MEMBARRIER_CMD_REGISTER_PRIVATE_EXPEDITED, 0, 0) == 0;
-#endif
     if (pthread_key_create(&at_end, thread_ends) != 0 || pthread_atfork(before_fork, end_locked, after_fork_in_child) != 0)
         abort();
 }

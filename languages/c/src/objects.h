@@ -1,8 +1,9 @@
-/* objects.h - what a map has of objects.c: each map begins with its `objects`. */
+/* objects.h - what a map has of objects.c: each map begins with its `objects`. And what that takes from gate.c. */
 #ifndef OBJECTS_H
 #define OBJECTS_H
 #include "samvolip_objects.h"
 #include <stdatomic.h>
+#include <stdbool.h>
 
 typedef struct objects {
     _Alignas(128) atomic_ullong clock; /* from 1 on; it ticks when a batch is queued */
@@ -15,10 +16,19 @@ typedef struct objects {
     struct objects *after;             /* those of another map */
 } objects;
 
+#pragma GCC visibility push(hidden)
+
 /* Of a map that is open now. */
 void objects_begin(objects *of);
 
 /* Frees all that was retired. The functions that do it may call the map still. */
 void objects_end(objects *of);
+
+/* A full fence in all threads that run, where the system has membarrier. It is registered before a map is open, and in a child. */
+extern bool has_membarrier;
+void heavy_fence(void);
+uint64_t nanoseconds(void);
+
+#pragma GCC visibility pop
 
 #endif

@@ -1,77 +1,57 @@
 /* walks.c - walks over the cores that a map has at one moment, and what shows all entries one by one. */
 #include "endless.h"
-#include <stdlib.h>
 
-enum { SLOTS_A_WALK = 4096 }; /* that are looked at while the lock is held */
-
-/* With the lock: goes to a core. */
-static void turn_to(samvolip_map_walk *walk, unsigned core)
+/* The entries in a piece of a core, from this slot on, by one of its seats: no more than it has slots. It may lie behind the last slot. */
+uint64_t list_piece(samvolip_seat *seat, size_t from, samvolip_entry *entries)
 {
-    walk->core = core;
-    walk->slot = 0;
-    samvolip_walk(&walk->cores[core]->reserve, &walk->cursor);
+    samvolip_cursor cursor;
+    uint64_t count = 0;
+    if (samvolip_walk_from(seat, from, &cursor) == SAMVOLIP_PRESENT)
+        samvolip_list(seat, &cursor, from + PIECE, entries, PIECE, &count);
+    return count;
 }
 
-/* With the lock. */
 void begin_walk(samvolip_map_walk *walk, samvolip_map *map)
 {
-    range parts = parts_of(map);
     walk->map = map;
-    walk->cores_count = parts.count;
-    walk->at = walk->count = 0;
-    for (unsigned i = 0; i < parts.count; i++) {
-        walk->cores[i] = map->parts[parts.first + i].core;
-        walk->cores[i]->walks++;
+    walk->place = 0;
+    walk->slot = walk->at = walk->count = 0;
+    lock(map);
+    for (unsigned place = 0; place < PLACES; place++) {
+        walk->cores[place] = map->parts[place].core;
+        if (walk->cores[place])
+            walk->cores[place]->users++;
     }
-    turn_to(walk, 0);
+    unlock(map);
 }
 
-/* Ends a walk, and frees its block, if it has one; and the cores that are over, if no other walk has them. */
+/* Ends a walk, and frees its block, if it has one. */
 static void end_walk(samvolip_map_walk *walk, void *block)
 {
     bool was_outside = go_inside();
-    lock(walk->map);
-    for (unsigned i = 0; i < walk->cores_count; i++)
-        if (--walk->cores[i]->walks > 0 || !walk->cores[i]->is_over)
-            walk->cores[i] = NULL;
-    unlock(walk->map);
-    for (unsigned i = 0; i < walk->cores_count; i++)
-        if (walk->cores[i])
-            free_core(walk->cores[i]);
+    leave_cores(walk->map, walk->cores, false);
     free(block);
     if (was_outside)
         go_outside();
 }
 
-/* Whether there are more entries: those of the next slots that have some. The lock isn't held for long. */
-static bool walk_on(samvolip_map_walk *walk)
+/* Goes on to the next piece that has entries, or to the end. */
+static void walk_on(samvolip_map_walk *walk)
 {
-    uint64_t count = 0;
-    bool goes_on = true;
-    while (count == 0 && goes_on) {
-        core *in = walk->cores[walk->core];
-        lock(walk->map);
-        if (walk->slot >= slots_of(in->exponent) && walk->core + 1 < walk->cores_count)
-            turn_to(walk, walk->core + 1);
-        else if (walk->slot >= slots_of(in->exponent))
-            goes_on = false;
-        else if (samvolip_list(&in->reserve, &walk->cursor, walk->slot + SLOTS_A_WALK, walk->some, WALKED, &count) == SAMVOLIP_ABSENT)
-            walk->slot += SLOTS_A_WALK;
-        unlock(walk->map);
+    walk->at = walk->count = 0;
+    while (walk->count == 0 && walk->place < PLACES) {
+        core *in = walk->cores[walk->place];
+        if (in && walk->slot < slots_of(in->exponent)) {
+            lock(walk->map);
+            walk->count = list_piece(&in->reserve, walk->slot, walk->some);
+            unlock(walk->map);
+            walk->slot += PIECE;
+        } else {
+            walk->place++;
+            walk->slot = 0;
+        }
     }
-    outer_keys(walk->map, walk->some, count);
-    walk->at = 0;
-    walk->count = count;
-    return count > 0;
-}
-
-static int next_of(samvolip_map_walk *walk, uint64_t *key, uint64_t *number)
-{
-    if (walk->at == walk->count && !walk_on(walk))
-        return SAMVOLIP_ABSENT;
-    *key = walk->some[walk->at].key;
-    *number = walk->some[walk->at++].number;
-    return SAMVOLIP_PRESENT;
+    outer_keys(walk->map, walk->some, walk->count);
 }
 
 int samvolip_map_walk_begin(samvolip_map *map, samvolip_map_walk **made)
@@ -80,9 +60,7 @@ int samvolip_map_walk_begin(samvolip_map *map, samvolip_map_walk **made)
         return SAMVOLIP_E_NESTED;
     samvolip_map_walk *walk = malloc(sizeof *walk);
     if (walk) {
-        lock(map);
         begin_walk(walk, map);
-        unlock(map);
         *made = walk;
     }
     go_outside();
@@ -93,21 +71,26 @@ int samvolip_map_walk_next(samvolip_map_walk *walk, uint64_t *key, uint64_t *num
 {
     if (!go_inside())
         return SAMVOLIP_E_NESTED;
-    int code = next_of(walk, key, number);
+    if (walk->at == walk->count)
+        walk_on(walk);
+    bool has_next = walk->at < walk->count;
+    if (has_next) {
+        *key = walk->some[walk->at].key;
+        *number = walk->some[walk->at++].number;
+    }
     go_outside();
-    return code;
+    return has_next ? SAMVOLIP_PRESENT : SAMVOLIP_ABSENT;
 }
 
 void samvolip_map_walk_end(samvolip_map_walk *walk) { end_walk(walk, walk); }
 
 /* Shows what is left of a walk, and ends it. */
-int show_all(samvolip_map_walk *walk, samvolip_map_visit *visit, void *context)
+void show_all(samvolip_map_walk *walk, samvolip_map_visit *visit, void *context)
 {
     uint64_t key, number;
     while (visit && samvolip_map_walk_next(walk, &key, &number) > 0)
         visit(context, key, number);
     end_walk(walk, NULL);
-    return SAMVOLIP_OK;
 }
 
 int samvolip_map_each(samvolip_map *map, samvolip_map_visit *visit, void *context)
@@ -115,9 +98,8 @@ int samvolip_map_each(samvolip_map *map, samvolip_map_visit *visit, void *contex
     samvolip_map_walk walk;
     if (!go_inside())
         return SAMVOLIP_E_NESTED;
-    lock(map);
     begin_walk(&walk, map);
-    unlock(map);
     go_outside();
-    return show_all(&walk, visit, context);
+    show_all(&walk, visit, context);
+    return SAMVOLIP_OK;
 }

@@ -1,29 +1,35 @@
 /* whole.c - the calls of samvolip_map.h that are of a whole map. But for the estimate of its size, they are alone with it. */
 #include "endless.h"
 
-/* Adds the keys of one part, by a call there; whether it could. */
-static bool add_keys(samvolip_map *map, unsigned share, uint64_t *sum)
-{
-    if (!go_inside())
-        return false;
-    *sum += samvolip_size_estimate(used_seat(map, enter_slowly(map, READS, share)));
-    leave();
-    return true;
-}
-
 int samvolip_map_size_estimate(samvolip_map *map, uint64_t *size)
 {
     uint64_t sum;
-    bool was_divided;
+    bool is_whole;
     do { /* again if the map was divided meanwhile, or is no more */
-        was_divided = map->is_divided;
+        range parts = parts_of(map);
         sum = 0;
-        for (unsigned share = 0; share < places_if(was_divided).count; share++)
-            if (!add_keys(map, share, &sum))
+        is_whole = true;
+        for (unsigned place = parts.first; place < parts.end && is_whole; place++) {
+            const part *into = enter_slowly(map, READS, place - parts.first);
+            if (!into)
                 return SAMVOLIP_E_NESTED;
-    } while (map->is_divided != was_divided);
+            sum += samvolip_size_estimate(used_seat(map, into));
+            is_whole = place_of(map, into) == place;
+            leave();
+        }
+    } while (!is_whole);
     *size = sum;
     return SAMVOLIP_OK;
+}
+
+/* Begins a call that is alone with the whole map. */
+static bool begin_alone(samvolip_map *map) { return go_inside() && be_alone(map, EVERYWHERE, NULL, 0); }
+
+static int end_with(samvolip_map *map, int code)
+{
+    end_alone(map, EVERYWHERE);
+    go_outside();
+    return code;
 }
 
 int samvolip_map_snapshot(samvolip_map *map, samvolip_entry *entries, size_t room, size_t *count)
@@ -39,40 +45,37 @@ int samvolip_map_snapshot(samvolip_map *map, samvolip_entry *entries, size_t roo
     lock(map);
     go_on(map, listing.from, writes, nanoseconds());
     unlock(map);
-    return finish_alone(map, code);
+    return end_with(map, code);
 }
 
 int samvolip_map_size(samvolip_map *map, uint64_t *size)
 {
-    size_t count;
-    int code = samvolip_map_snapshot(map, NULL, 0, &count);
-    if (code == SAMVOLIP_E_NESTED)
-        return code;
-    *size = count;
-    return SAMVOLIP_OK;
+    int code = samvolip_map_snapshot(map, NULL, 0, size);
+    return code == SAMVOLIP_E_ROOM ? SAMVOLIP_OK : code;
 }
 
 int samvolip_map_renew(samvolip_map *map, uint64_t room)
 {
     if (room > MOST_ROOM)
         return SAMVOLIP_E_OUT_OF_MEMORY;
-    return begin_alone(map) ? finish_alone(map, renew_by_hand(map, room)) : SAMVOLIP_E_NESTED;
+    return begin_alone(map) ? end_with(map, renew_by_hand(map, room)) : SAMVOLIP_E_NESTED;
 }
 
 int samvolip_map_clear(samvolip_map *map, samvolip_map_visit *visit, void *context)
 {
-    samvolip_map_walk walk;
+    samvolip_map_walk walk; /* over the cores that are there before */
     if (!begin_alone(map))
         return SAMVOLIP_E_NESTED;
-    int code = finish_alone(map, clear(map, &walk));
-    return code < 0 ? code : show_all(&walk, visit, context);
+    begin_walk(&walk, map);
+    int code = end_with(map, put_empty_cores(map, parts_of(map)));
+    show_all(&walk, code >= 0 ? visit : NULL, context);
+    return code;
 }
 
 int samvolip_map_look(samvolip_map *map, samvolip_map_figures *figures)
 {
     uint64_t keys, slots = 0;
-    int code = samvolip_map_size_estimate(map, &keys);
-    if (code < 0 || !go_inside())
+    if (samvolip_map_size_estimate(map, &keys) < 0 || !go_inside())
         return SAMVOLIP_E_NESTED;
     lock(map);
     for (unsigned place = 0; place < PLACES; place++)
@@ -83,5 +86,5 @@ int samvolip_map_look(samvolip_map *map, samvolip_map_figures *figures)
     figures->own_threads = map->taken;
     unlock(map);
     go_outside();
-    return code;
+    return SAMVOLIP_OK;
 }
