@@ -2,7 +2,7 @@
 ghost use Rattle.std.specs.FinMap as numbers;
 ghost use Rattle.std.specs.Prelude.{IfErr, IfOk, [], length, ◌≡◌};
 ghost use Rattle.nb_core.specs.Calls.{Fills};
-ghost use Rattle.nb_core.specs.Log.{log_of, map_of_log, reply_at};
+ghost use Rattle.nb_core.specs.Log.{IsReplayed, log_of, map_of_log, reply_at};
 ghost use Rattle.nb_core.specs.declared.calls.Call.TheVariants as call;
 ghost use Rattle.nb_map.specs.NamedCalls.{add_of, put_if_absent_of, put_of, remove_if_of, remove_of, replace_if_of, replace_of};
 ghost use Rattle.nb_lasting.specs.Guests.{GuestHasCalled, GuestHasFound, GuestHasMatched, GuestHasReplied, GuestIsRefused};
@@ -56,6 +56,14 @@ impl Guest {
         ensures { result ≡ self.now.number }
     {
         self.lane
+    }
+
+    /// Reminds a proof that the log that it knows is replayed: so a guest that makes no call has called
+    /// nothing. It does nothing.
+    pub fn known(&self)
+        ensures { IsReplayed self.now.log }
+    {
+        let _ = &self.token;
     }
 
     /// Its token alone.
