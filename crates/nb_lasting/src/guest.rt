@@ -8,7 +8,7 @@ ghost use Rattle.nb_map.specs.NamedCalls.{add_of, put_if_absent_of, put_of, remo
 ghost use Rattle.nb_lasting.specs.Guests.{GuestHasCalled, GuestHasFound, GuestHasMatched, GuestHasReplied, GuestIsRefused};
 ghost use Rattle.nb_lasting.specs.Holding.{IsIdleGuest};
 ghost use Rattle.nb_lasting.specs.Lasting.{IsNewKey, as_write_fault};
-ghost use Rattle.nb_lasting.specs.inside.Guests.{HasTried, HasWrittenHere, NeverOverflows};
+ghost use Rattle.nb_lasting.specs.inside.Guests.{GuestHasTried, HasWrittenHere, NeverOverflows};
 
 use crate::counting::count_through;
 use crate::faults::{GrowFault, WriteFault};
@@ -103,7 +103,7 @@ impl Guest {
         want: &Want,
         change: &Change,
     ) -> Result<Option<Reply>, WriteFault>
-        ensures { HasTried (call.Write key want.now change.now) self.old self.new result }
+        ensures { GuestHasTried (call.Write key want.now change.now) self.old self.new result }
     {
         match self.write_here(rt, key, want, change) {
             Ok(reply) => {
@@ -128,7 +128,7 @@ impl Guest {
         change: &Change,
     ) -> Result<Option<Reply>, WriteFault>
         requires new_key { IsNewKey (call.Write key want.now change.now) (map_of_log self.old.log) }
-        ensures { HasTried (call.Write key want.now change.now) self.old self.new result }
+        ensures { GuestHasTried (call.Write key want.now change.now) self.old self.new result }
     {
         write_or_renew(
             rt,

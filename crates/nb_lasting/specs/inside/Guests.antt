@@ -45,11 +45,11 @@ pub record IsShared (c : shared.Inside) : Type 0 where
 -- ---- a round of a write
 
 -- it was made, or not yet, or is refused
-abbrev pub HasTried :
+abbrev pub GuestHasTried :
     Call → (before after : GuestOf) → Result (Option Reply) WriteFault → Type 0
-HasTried call before after (Ok None) = GuestHasCalled before after []
-HasTried call before after (Ok (Some reply)) = GuestHasReplied call before after reply
-HasTried call before after (Err fault) = GuestIsRefused call before after fault
+GuestHasTried call before after (Ok None) = GuestHasCalled before after []
+GuestHasTried call before after (Ok (Some reply)) = GuestHasReplied call before after reply
+GuestHasTried call before after (Err fault) = GuestIsRefused call before after fault
 
 -- it was made on the map that is there, or refused
 abbrev pub HasWrittenHere : Call → (before after : GuestOf) → Result Reply PutFault → Type 0
