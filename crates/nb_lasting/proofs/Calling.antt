@@ -1,15 +1,20 @@
 -- What a guest's call does to what it knows.
-use Rattle.std.proofs.Common.{◌≡◌, ◌∙◌, ◌++◌, ℕ, List, [], ◌∷◌, All, Some, ap, refl, subst, sym}
+use Rattle.std.proofs.Common.{◌≡◌, ◌∙◌, ◌++◌, ℕ, List, [], ◌∷◌, Some, ap, subst, sym}
+use Rattle.std.specs.FinMap as numbers
 use Rattle.std.specs.Prelude.{Err, None, Ok, Option, Result, unwrap_or}
 use Rattle.std.proofs.lemmas.List.{append_assoc}
 use Rattle.atomic_table.specs.Table.{Me, rest}
+use Rattle.nb_core.proofs.Theorems.{crowded_absent, log_is_replayed}
 use Rattle.nb_core.specs.Calls.{overflows}
-use Rattle.nb_core.specs.Log.{Entry, IsReplayed, calls_of, log_of, map_of_log}
+use Rattle.nb_core.specs.History.{IsLegal, key_of_call}
+use Rattle.nb_core.specs.Log.{Entry, IsReplayed, log_of, map_of_log}
+use Rattle.nb_core.specs.Meaning.{IsCrowded}
+use Rattle.nb_core.specs.Plans.{IsPlan, Plan}
 use Rattle.nb_core.specs.declared.calls.Call.{Call}
 use Rattle.nb_core.specs.declared.calls.Reply.{Reply}
 use Rattle.nb_core.specs.declared.events.Event.{Event}
 use Rattle.nb_map.specs.Handles.{HandleOf, KeepsRest}
-use Rattle.nb_map.specs.Logs.{HasLogged, log}
+use Rattle.nb_map.specs.Logs.{HasLogged, log, made_in}
 use Rattle.nb_map.specs.Maps.{MapOf, SeatOf}
 use Rattle.nb_map.specs.Progress.{Limit}
 use Rattle.nb_map.specs.Promises.{HasWritten, replied_or_refused}
@@ -20,7 +25,7 @@ use Rattle.nb_lasting.proofs.Epochs.{goes_on, leaves, replays}
 use Rattle.nb_lasting.proofs.Sharing.{known-of, log-as-events}
 use Rattle.nb_lasting.specs.Epochs.{HasGoneOnBy}
 use Rattle.nb_lasting.specs.Holding.{CanGive, HasCalledIn, HasWrittenIn, IsIdleGuest, IsJustIn}
-use Rattle.nb_lasting.specs.Shared.{EpochIn, HasGiven, HasTaken, Holds, IsLane, KnowsIn, as_events, known_in, known_of, rest_outs}
+use Rattle.nb_lasting.specs.Shared.{EpochIn, HasGiven, HasTaken, KnowsIn, as_events, known_in, known_of, rest_outs}
 use Rattle.nb_lasting.specs.declared.shared.LaneView.{LaneView}
 
 -- what a handle knows after its calls
@@ -170,17 +175,24 @@ taken-is lane before mid taken y handle found is =
 
 -- ---- a write
 
+-- a key that finds all slots of the last table taken is absent
+pub crowded-away :
+    (p : Plan) → IsPlan p → (seen : List Event) → IsLegal p seen → (k : ℕ) → IsCrowded p seen k
+    → numbers.get (map_of_log (log_of seen)) k ≡ None
+crowded-away p plan seen legal k crowded =
+    ap (λ content. numbers.get content k) (log_is_replayed p plan seen legal).map
+    ∙ crowded_absent p plan seen legal k crowded
+
 -- its calls, and what they tell of the answer
 pub write-logged :
     (m : MapOf) (call : Call) (before after : SeatOf) (limit : Limit)
     (result : Result Reply PutFault) → HasWritten m call before after limit (replied_or_refused result)
-    → (made : List (Call × Reply)) × HasLogged before after made
-    × ((lane : ℕ) (old new : LaneView) → HasCalledIn lane old new made
+    → HasLogged before after (made_in call result)
+    × ((lane : ℕ) (old new : LaneView) → HasCalledIn lane old new (made_in call result)
     → map_of_log (log_of new.seen) ≡ map_of_log (log after) → HasWrittenIn lane old new call result)
 write-logged m call before after limit (Ok reply) wrote =
-    ((call, reply) ∷ [], wrote.answered, λ lane old new called same. called)
+    (wrote.answered, λ lane old new called same. called)
 write-logged m call before after limit (Err fault) wrote = (
-  [],
   wrote.answered.unmade,
   λ lane old new called same. (called, just fault wrote.answered.just new same),
 )
@@ -188,6 +200,11 @@ write-logged m call before after limit (Err fault) wrote = (
     just : (fault : PutFault) → IsJust m.chain.shape call before.chain after.chain limit fault
         → (new : LaneView) → map_of_log (log_of new.seen) ≡ map_of_log (log after)
         → IsJustIn call (log_of new.seen) fault
-    just put_fault.Full is new same = is.0
+    just put_fault.Full is new same = (
+      is.0,
+      ap (λ content. numbers.get content (key_of_call call)) same
+          ∙ crowded-away m.chain.shape wrote.own.chain.plan after.chain.seen wrote.own.chain.legal
+          (key_of_call call) is.1,
+    )
     just put_fault.Contended is new same = tt
     just put_fault.ValueRange is new same = ap (overflows call) same ∙ is

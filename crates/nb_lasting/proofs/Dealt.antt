@@ -1,5 +1,5 @@
 -- What a renewer's token holds, from step to step.
-use Rattle.std.proofs.Common.{◌≡◌, ◌≢◌, ◌∙◌, ◌+◌, ◌++◌, ◌<◌, ◌≤◌, ◌==◌, ◌⊎◌, ℕ, zero, suc, Bool, true, false, if◌then◌else◌, List, [], ◌∷◌, All, Some, ap, inl, inr, length, length-append, refl, slice_get, subst, sym, arith}
+use Rattle.std.proofs.Common.{◌≡◌, ◌≢◌, ◌∙◌, ◌+◌, ◌++◌, ◌<◌, ◌≤◌, ◌⊎◌, ℕ, zero, suc, true, false, List, [], ◌∷◌, All, Some, ap, inl, inr, length, length-append, refl, slice_get, subst, sym, arith}
 use Rattle.std.specs.Prelude.{Err, None, Ok, OnOk, Option, Result, ⊤, is_ok, unwrap_or}
 use Rattle.std.proofs.lemmas.Option.{slice_get_within}
 use Rattle.atomic_table.specs.Table.{Me, rest}
@@ -10,15 +10,16 @@ use Rattle.nb_map.specs.Handles.{HandleOf}
 use Rattle.nb_map.specs.Logs.{log}
 use Rattle.nb_map.specs.Maps.{MapOf}
 use Rattle.nb_lasting.proofs.Calling.{taken-is}
-use Rattle.nb_lasting.proofs.Sharing.{Same, anew-log, current_here, decided, known-of, some-is, times_else, times_here, with-else, with-here, with_current}
+use Rattle.nb_lasting.proofs.Sharing.{Same, anew-log, current_gone, current_here, current_more, decided, known-of, some-is, times_else, times_here, with-else, with-here, with_current}
+use Rattle.nb_lasting.proofs.Epochs.{goes_on}
 use Rattle.nb_lasting.specs.Epochs.{HasGoneOnBy}
 use Rattle.nb_lasting.specs.Closing.{HasGathered}
 use Rattle.nb_lasting.specs.Holding.{CanDeal, CanGive, CanRenew, IsIdleGuest}
 use Rattle.nb_map.specs.declared.faults.RenewFault.{RenewFault}
 use Rattle.nb_lasting.proofs.Renewed.{all-from, renewed-all}
 use Rattle.nb_lasting.specs.Gathered.{AreSingle, IsPartedAnew, IsSingle}
-use Rattle.nb_lasting.specs.Renewal.{AreAnew, AreHeld, AreRenewed, CanComeHome, CanDealAnew, CanDealBelow, CanDealShaped, HoldsBelow, IsIdleToken, blanks, down}
-use Rattle.nb_lasting.specs.Shared.{EpochIn, Has, HasBegunAnew, HasDealt, HasGiven, HasTaken, Holds, HoldsAnew, IsCurrent, IsLane, IsOfGuest, FitsLanes, KnowsIn, all_knew, as_guest, given, given_anew, known_in, known_of, log_in, map_in, rest_outs, times_out}
+use Rattle.nb_lasting.specs.Renewal.{AreHeld, AreRenewed, CanComeHome, CanDealAnew, CanDealBelow, CanDealShaped, HoldsBelow, HoldsStill, IsIdleToken, blanks, down}
+use Rattle.nb_lasting.specs.Shared.{Has, HasBegunAnew, HasDealt, HasGiven, HasTaken, Holds, IsCurrent, IsLane, IsOfGuest, FitsLanes, KnowsIn, all_knew, as_guest, given, known_in, known_of, log_in, map_in, rest_outs, times_out}
 use Rattle.nb_lasting.specs.declared.shared.Out.{Out}
 use Rattle.nb_lasting.specs.declared.shared.LaneView.{LaneView}
 
@@ -537,45 +538,93 @@ on_ok (Err fault) holds = tt
 
 -- ---- all handles are made one
 
+-- they have called nothing since they were gathered
+pub held-still :
+    (n : ℕ) (me : Me (Option HandleOf) LaneView) (handles : List HandleOf) → HoldsBelow n me handles
+    → HoldsStill n me handles
+held-still n me handles holds = record {
+  knew = holds.knew;
+  epoch = holds.epoch;
+  outs = holds.outs;
+  slots = holds.slots;
+  begun = holds.begun;
+  still = record {
+    know = holds.knew;
+    held = holds.held;
+    gone = λ i below.
+        let one = there_is handles i (omega (arith, below, holds.held.count)) in
+        record {
+          later = [];
+          grown = refl;
+          replayed = (holds.held.each i one.0 one.1).1.replayed;
+          own = refl;
+        };
+  };
+  mine = holds.mine;
+}
+
+-- so they can be dealt
+pub still-dealt :
+    (n : ℕ) (me : Me (Option HandleOf) LaneView) (handles : List HandleOf) → HoldsStill n me handles
+    → CanDealBelow (length handles) me handles
+still-dealt n me handles holds =
+    subst (λ k. CanDealBelow k me handles) (sym holds.still.held.count) (record {
+      knew = holds.knew;
+      know = holds.still.know;
+      outs = holds.outs;
+      slots = holds.slots;
+      held = holds.still.held;
+      current = λ i below.
+          current_gone i (holds.knew i) (holds.still.know i) (holds.still.gone i below);
+    })
+
 pub all-single :
-    (n : ℕ) (me : Me (Option HandleOf) LaneView) (handles : List HandleOf) → 1 ≤ n → n ≤ 256
-    → HoldsBelow n me handles → AreSingle handles
-all-single n me handles some few holds = record {
-  shared = me.0.map;
-  each = all-from (IsSingle me.0.map) handles (λ i h at.
-      let one = (holds.held.each i h at).0 in
+    (n : ℕ) (m : MapOf) (filled past : List Event) (know : ℕ → List Event) (handles : List HandleOf)
+    → 1 ≤ n → n ≤ 256 → AreHeld m filled past n know handles → AreSingle handles
+all-single n m filled past know handles some few held = record {
+  shared = m;
+  each = all-from (IsSingle m) handles (λ i h at.
+      let one = (held.each i h at).0 in
       record { map = one.map; alone = one.alone });
-  some = omega (arith, some, holds.held.count);
-  few = omega (arith, few, holds.held.count);
+  some = omega (arith, some, held.count);
+  few = omega (arith, few, held.count);
 }
 
 pub single-map :
-    (n : ℕ) (me : Me (Option HandleOf) LaneView) (handles : List HandleOf) (some : 1 ≤ n)
-    (few : n ≤ 256) (holds : HoldsBelow n me handles)
-    → (all-single n me handles some few holds).shared ≡ me.0.map
+    (n : ℕ) (m : MapOf) (filled past : List Event) (know : ℕ → List Event) (handles : List HandleOf)
+    (some : 1 ≤ n) (few : n ≤ 256) (held : AreHeld m filled past n know handles)
+    → (all-single n m filled past know handles some few held).shared ≡ m
 unfolding all-single
-single-map n me handles some few holds = refl
+single-map n m filled past know handles some few held = refl
+
+-- the same of what a token holds
+abbrev pub still-single :
+    (n : ℕ) (me : Me (Option HandleOf) LaneView) (handles : List HandleOf) → 1 ≤ n → n ≤ 256
+    → HoldsStill n me handles → AreSingle handles
+still-single n me handles some few holds =
+    all-single n me.0.map me.0.filled me.0.past holds.still.know handles some few holds.still.held
 
 module _
     (p : Plan) (me : Me (Option HandleOf) LaneView) (before after : List HandleOf) (some : 1 ≤ p.seats)
-    (few : p.seats ≤ 256) (seated : FitsLanes p.seats me.0) (holds : HoldsBelow p.seats me before) where
+    (few : p.seats ≤ 256) (seated : FitsLanes p.seats me.0) (holds : HoldsStill p.seats me before) where
   -- what a renewal makes of them, in the words of the token
   renewed-by :
       (result : Result ⊤ RenewFault) → IsPartedAnew p before after result
-      → AreRenewed p me.0.map me.0.filled me.0.past holds.knew after result
-  unfolding all-single
+      → AreRenewed p me.0.map me.0.filled me.0.past holds.still.know after result
   renewed-by result is =
       let begun = holds.begun (omega (arith, some)) in
-      subst (λ (f : List Event). AreRenewed p me.0.map f me.0.past holds.knew after result)
+      let know = holds.still.know in
+      let held = holds.still.held in
+      subst (λ (f : List Event). AreRenewed p me.0.map f me.0.past know after result)
       (sym begun.0)
-      (subst (λ (l : List Event). AreRenewed p me.0.map holds.epoch.filled l holds.knew after result)
+      (subst (λ (l : List Event). AreRenewed p me.0.map holds.epoch.filled l know after result)
       (sym begun.1)
-      (renewed-all p me.0.map holds.epoch holds.knew before after
+      (renewed-all p me.0.map holds.epoch know before after
       (subst (λ (l : List Event). All (IsOfGuest p.seats) (log_of l)) begun.1 seated.made)
-      (subst (λ (f : List Event). AreHeld me.0.map f holds.epoch.past p.seats holds.knew before) begun.0
-      (subst (λ (l : List Event). AreHeld me.0.map me.0.filled l p.seats holds.knew before) begun.1
-      holds.held))
-      (all-single p.seats me before some few holds) result refl is))
+      (subst (λ (f : List Event). AreHeld me.0.map f holds.epoch.past p.seats know before) begun.0
+      (subst (λ (l : List Event). AreHeld me.0.map me.0.filled l p.seats know before) begun.1 held))
+      (still-single p.seats me before some few holds) result
+      (single-map p.seats me.0.map me.0.filled me.0.past know before some few held) is))
 
   pub deals :
       (result : Result ⊤ RenewFault) → IsPartedAnew p before after result
@@ -591,7 +640,16 @@ module _
             knew = holds.knew;
             outs = holds.outs;
             slots = holds.slots;
-            anew = anew.0;
+            anew = record {
+              shared = anew.0.shared;
+              next = anew.0.next;
+              fits = anew.0.fits;
+              made = anew.0.made;
+              held = anew.0.held;
+              met = λ i below.
+                  goes_on i (log_of (holds.knew i)) (log_of (holds.still.know i))
+                  (log_of anew.0.next.past) [] [] (holds.still.gone i below) (anew.0.met i below);
+            };
           },
           anew.1,
         )),
@@ -608,6 +666,9 @@ module _
           outs = holds.outs;
           slots = holds.slots;
           held = as-before.held;
-          current = as-before.current;
+          current = λ i below.
+              current_more i (holds.knew i) (holds.still.know i) (as-before.know i)
+              (current_gone i (holds.knew i) (holds.still.know i) (holds.still.gone i below))
+              (as-before.current i below);
         })),
       )

@@ -9,6 +9,7 @@ pub mod Renewed
 pub mod Dealt
 pub mod Calling
 pub mod Counted
+pub mod Written
 pub mod Logged
 pub mod Sizes
 pub mod Theorems

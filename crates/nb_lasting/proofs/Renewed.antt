@@ -1,19 +1,26 @@
 -- What a renewal makes of the handles of all lanes, and a count.
-use Rattle.std.proofs.Common.{◌≡◌, ◌∙◌, ◌+◌, ◌++◌, ◌<◌, ◌≤◌, ℕ, zero, suc, List, [], ◌∷◌, All, Some, ap, inl, inr, length, map, refl, slice_get, subst, sym, arith}
+use Rattle.std.proofs.Common.{◌≡◌, ◌∙◌, ◌++◌, ◌<◌, ◌≤◌, ◌^◌, ℕ, cond, zero, suc, List, [], ◌∷◌, All, Some, ap, inl, inr, length, map, refl, slice_get, subst, sym, arith}
 use Rattle.std.specs.FinMap as numbers
 use Rattle.std.specs.List.{AllZip, range_with_len}
-use Rattle.std.specs.Prelude.{Err, IfErr, IfOk, None, Ok, Option, Result, ⊤, get_or, option_map, unwrap_or}
-use Rattle.std.proofs.lemmas.List.{length-map}
+use Rattle.std.specs.Prelude.{◌-◌, Err, IfOk, None, Ok, Option, Result, ⊤, get_or, option_map, unwrap_or}
+use Rattle.std.proofs.lemmas.Bool.{eq-eqb}
+use Rattle.std.proofs.lemmas.List.{append_cancel_right, length-map}
 use Rattle.std.proofs.lemmas.List.Elements.{All-append, All-cons, All-head, All-nil, All-tail}
 use Rattle.std.proofs.lemmas.List.FromFn.{get_or-range_with_len, length-range_with_len}
 use Rattle.std.proofs.lemmas.Option.{get_or_from_slice_get, slice_get-get_or, slice_get-map, slice_get_within}
 use Rattle.nb_core.proofs.Seating.{All-left}
-use Rattle.nb_core.specs.Log.{Entry, IsReplayed, log_of, map_of_log}
-use Rattle.nb_core.specs.Plans.{Plan}
+use Rattle.nb_core.proofs.Theorems.{stays}
+use Rattle.nb_core.specs.History.{IsLegal}
+use Rattle.nb_core.specs.Log.{Entry, IsReplayed, calls_of, log_of, map_of_log}
+use Rattle.nb_core.specs.Meaning.{IsCrowded}
+use Rattle.nb_core.specs.Plans.{IsPlan, Plan, generations_of}
 use Rattle.nb_core.specs.declared.calls.Call.{Call}
 use Rattle.nb_core.specs.declared.calls.Reply.{Reply}
 use Rattle.nb_core.specs.declared.events.Event.{Event}
-use Rattle.nb_map.specs.Ending.{EndedOf, EndedWith, log_left}
+use Rattle.nb_core.specs.declared.shapes.TheConstants.{MAX_EXPONENT}
+use Rattle.nb_table.specs.Chains.{SeenBy}
+use Rattle.nb_table.specs.Views.{HasSeen}
+use Rattle.nb_map.specs.Ending.{EndedOf, EndedWith, HasAll, log_left}
 use Rattle.nb_map.specs.Entries.{HasOnlyRead, IsRead}
 use Rattle.nb_map.specs.Bulk.{whole_walk_steps}
 use Rattle.nb_map.specs.Handles.{HandleOf, IsSameMap, handle_on, seats_of}
@@ -23,13 +30,14 @@ use Rattle.nb_map.specs.Renewing.{HasRenewed, IsKept}
 use Rattle.nb_map.specs.Settling.{HasCaughtUp}
 use Rattle.nb_map.specs.declared.faults.RenewFault.{RenewFault}
 use Rattle.nb_map.specs.declared.faults.SettleFault.{SettleFault}
-use Rattle.nb_lasting.proofs.Calling.{known-then}
+use Rattle.nb_lasting.proofs.Calling.{crowded-away, known-then}
 use Rattle.nb_lasting.proofs.Epochs.{leaves, one_log_for_all}
 use Rattle.nb_lasting.proofs.Sharing.{log-as-events}
 use Rattle.nb_lasting.specs.Epochs.{AllKnow, EpochOf, HasGoneOnBy, HaveMetIn, IsOfEpoch, Knows}
-use Rattle.nb_lasting.specs.Gathered.{IsPartedCounted, AreSingle, IsPartedAnew, IsSingle, seats_of_each}
+use Rattle.nb_lasting.specs.Gathered.{HaveTooMany, IsPartedCounted, AreSingle, IsPartedAnew, seats_of_each}
 use Rattle.nb_lasting.specs.Renewal.{AreAnew, AreAsBefore, AreHeld, AreRenewed, AreStill}
-use Rattle.nb_lasting.specs.Shared.{EpochIn, IsCurrent, IsLane, IsOfGuest, KnowsIn, as_events, known_of}
+use Rattle.nb_lasting.specs.Shared.{EpochIn, IsLane, IsOfGuest, KnowsIn, as_events, known_of}
+use Rattle.nb_lasting.specs.inside.Present.{HasSlots}
 
 -- ---- lists by index
 
@@ -269,51 +277,200 @@ seen-map e seat whole knows =
 abbrev pub HasSize : List Event → ℕ → Type 0
 HasSize whole size = size ≡ length (numbers.entries (map_of_log (log_of whole)))
 
+-- a key that a handle finds crowded out is so for ever
+crowded-still :
+    (p : Plan) → IsPlan p → (later seen : List Event) → IsLegal p (later ++ seen) → (k : ℕ)
+    → IsCrowded p seen k → IsCrowded p (later ++ seen) k
+crowded-still p plan later seen legal k crowded i less =
+    let is = crowded i less in
+    let stay = stays p plan later seen legal (generations_of p - 1) i
+    (omega (arith, plan.tables.0), less) in
+    record {
+      other = is.other;
+      is = stay.key (λ empty. absurd cc) ∙ is.is;
+      differs = is.differs;
+    }
+
+-- what is known of a lane's handle after a count, which had this seat before
+pub record IsCountedAt (m : MapOf) (seat : SeatOf) (whole : List Event) (size : ℕ) : Type 0 where
+  pub keys : HasSize whole size
+  pub absent :
+      (k : ℕ) → IsCrowded m.chain.shape seat.chain.seen k
+      → numbers.get (map_of_log (log_of whole)) k ≡ None
+
+-- what is known of all handles after a count
+pub record AreCountedIn (m : MapOf) (know : ℕ → List Event) (before after : List HandleOf)
+    (size : ℕ) : Type 0 where
+  pub at : (i : ℕ) (h : HandleOf) → slice_get before i ≡ Some h → IsCountedAt m h.seat (know i) size
+  pub whole : List Entry
+  pub logs : (i : ℕ) (h : HandleOf) → slice_get after i ≡ Some h → log h.seat ≡ whole
+  pub keys : size ≡ length (numbers.entries (map_of_log whole))
+
 -- handles that were counted have called nothing, and each knows the map of so many keys
 pub counted-still :
     (n : ℕ) (m : MapOf) (e : EpochIn) (knew : ℕ → List Event) (before after : List HandleOf)
     → AreHeld m e.filled e.past n knew before → (single : AreSingle before) → single.shared ≡ m
     → (result : Result ℕ SettleFault) → IsPartedCounted before after result
     → (still : AreStill m e.filled e.past n knew after)
-    × IfOk result (λ size. (i : ℕ) → i < n → HasSize (still.know i) size)
+    × IfOk result (AreCountedIn m still.know before after)
 counted-still n m e knew before after held single one (Err fault) is = (
   subst (AreStill m e.filled e.past n knew) (sym is.parted)
       (kept-still n m e knew before held is.joined is.whole (is.one_map single ∙ one) is.seats is.kept),
   tt,
 )
 counted-still n m e knew before after held single one (Ok size) is =
-    let history = is.settled.tables.history in
-    let moved : AllZip (HasMade IsNone) (seats_of is.joined) (seats_of is.whole) =
-    zip-weaker (HasCaughtUp is.joined.map (log_of history)) (HasMade IsNone)
-    (λ old new caught. ([], refl, caught.logged)) (seats_of is.joined) (seats_of is.whole)
-    is.settled.each in
     subst (λ hs. (still : AreStill m e.filled e.past n knew hs)
-    × ((i : ℕ) → i < n → HasSize (still.know i) size)) (sym is.parted) (
+    × AreCountedIn m still.know before hs size) (sym is.parted) (
       record {
         know = knows-of e is.whole;
-        held = held-after IsNone n m e knew before held is.joined is.whole (is.one_map single ∙ one)
-            is.seats is.same moved;
+        held = held-after IsNone n m e knew before held is.joined is.whole same-map is.seats is.same
+            moved;
         gone = λ i below.
-            let gone = gone-after IsNone n m e knew before held is.joined is.whole
-            (is.one_map single ∙ one) is.seats is.same moved i below in
+            let gone = gone-after IsNone n m e knew before held is.joined is.whole same-map is.seats
+            is.same moved i below in
             subst (HasGoneOnBy i (log_of (knew i)) (log_of (knows-of e is.whole i))) gone.1 gone.2;
       },
-      λ i below.
-          let seat = get_or (seats_of is.whole) i is.whole.seat in
-          let at = seat-after IsNone n m e knew before held is.joined is.whole
-          (is.one_map single ∙ one) is.seats is.same moved i below in
-          let caught = zip-at (HasCaughtUp is.joined.map (log_of history)) (seats_of is.joined)
-          (seats_of is.whole) i seat is.settled.each at in
-          let knows = knows-after IsNone n m e knew before held is.joined is.whole
-          (is.one_map single ∙ one) is.seats is.same moved i below in
-          is.settled.keys
-          ∙ ap (λ l. length (numbers.entries (map_of_log l))) (sym caught.2.knows)
-          ∙ ap (λ c. length (numbers.entries c))
-          (sym (seen-map e seat (knows-of e is.whole i) knows)),
+      record {
+        at = at-each;
+        whole = log_of is.settled.tables.history;
+        logs = λ i h at.
+            let s = mapped-at is.whole.map (seats_of is.whole) i h at in
+            let caught = zip-at (HasCaughtUp is.joined.map (log_of is.settled.tables.history))
+            (seats_of is.joined) (seats_of is.whole) i s.0 is.settled.each s.1 in
+            ap (λ (x : HandleOf). log x.seat) s.2 ∙ caught.2.knows;
+        keys = is.settled.keys;
+      },
     )
   where
     IsNone : List (Call × Reply) → Type 0
     IsNone made = made ≡ []
+
+    same-map : is.joined.map ≡ m
+    same-map = is.one_map single ∙ one
+
+    history : List Event
+    history = is.settled.tables.history
+
+    moved : AllZip (HasMade IsNone) (seats_of is.joined) (seats_of is.whole)
+    moved =
+        zip-weaker (HasCaughtUp is.joined.map (log_of is.settled.tables.history)) (HasMade IsNone)
+        (λ old new caught. ([], refl, caught.logged)) (seats_of is.joined) (seats_of is.whole)
+        is.settled.each
+
+    -- what each handle knows then leaves the map of all calls
+    knows-all :
+        (i : ℕ) → i < n
+        → map_of_log (log_of (knows-of e is.whole i)) ≡ map_of_log (log_of is.settled.tables.history)
+    knows-all i below =
+        let seat = get_or (seats_of is.whole) i is.whole.seat in
+        let at = seat-after IsNone n m e knew before held is.joined is.whole same-map is.seats is.same
+        moved i below in
+        let caught = zip-at (HasCaughtUp is.joined.map (log_of is.settled.tables.history))
+        (seats_of is.joined) (seats_of is.whole) i seat is.settled.each at in
+        seen-map e seat (knows-of e is.whole i)
+        (knows-after IsNone n m e knew before held is.joined is.whole same-map is.seats is.same moved
+        i below)
+        ∙ ap map_of_log caught.2.knows
+
+    at-each :
+        (i : ℕ) (h : HandleOf) → slice_get before i ≡ Some h
+        → IsCountedAt m h.seat (knows-of e is.whole i) size
+    at-each i h at = record {
+      keys = is.settled.keys
+          ∙ ap (λ content. length (numbers.entries content)) (sym (knows-all i below));
+      absent = λ k crowded.
+          ap (λ content. numbers.get content k) (knows-all i below)
+          ∙ crowded-away m.chain.shape plan is.settled.tables.history legal k
+          (subst (λ h. IsCrowded m.chain.shape h k) (sym seen.is)
+          (crowded-still m.chain.shape plan seen.later h.seat.chain.seen
+          (subst (IsLegal m.chain.shape) seen.is legal) k crowded));
+    }
+      where
+        below : i < n
+        below = omega (arith, slice_get_within before i h at, held.count)
+
+        shape : is.joined.map.chain.shape ≡ m.chain.shape
+        shape = ap (λ (m : MapOf). m.chain.shape) same-map
+
+        plan : IsPlan m.chain.shape
+        plan = subst IsPlan shape is.settled.left.left.plan
+
+        legal : IsLegal m.chain.shape is.settled.tables.history
+        legal = subst (λ p. IsLegal p is.settled.tables.history) shape is.settled.tables.legal
+
+        seat-here : slice_get (seats_of is.joined) i ≡ Some h.seat
+        seat-here = ap (λ xs. slice_get xs i) is.seats ∙ seat-at before i h at
+
+        chain-here : slice_get (map (λ (seat : SeatOf). seat.chain) (seats_of is.joined)) i ≡ Some h.seat.chain
+        chain-here =
+            slice_get-map (λ (seat : SeatOf). seat.chain) (seats_of is.joined) i
+            ∙ ap (option_map (λ (seat : SeatOf). seat.chain)) seat-here
+
+        seen : HasSeen is.settled.tables.history h.seat.chain.number h.seat.chain.seen
+        seen =
+            at-all (λ (seat : SeenBy). HasSeen is.settled.tables.history seat.number seat.seen)
+            (map (λ (seat : SeatOf). seat.chain) (seats_of is.joined)) i h.seat.chain
+            is.settled.tables.seen chain-here
+
+-- where all seats know one log, that one is left
+one-left :
+    (seats : List SeatOf) (whole : List Entry) (first : SeatOf) (ended : EndedOf) → EndedWith seats ended
+    → slice_get seats 0 ≡ Some first
+    → ((i : ℕ) (seat : SeatOf) → slice_get seats i ≡ Some seat
+    → (log seat ≡ whole) × (seat.chain.number ≡ i))
+    → log_left ended ≡ whole
+one-left seats whole first ended left at each =
+    let all = at-all (HasAll (log_left ended)) seats 0 first left.logs at in
+    let is : log_left ended ≡ all.later ++ whole =
+    all.is ∙ ap (λ l. all.later ++ l) (each 0 first at).0 in
+    is ∙ ap (λ l. l ++ whole) (none all.later is)
+  where
+    none : (later : List Entry) → log_left ended ≡ later ++ whole → later ≡ []
+    none [] is = refl
+    none (entry ∷ later) is =
+        let below : entry.seat < length seats =
+        All-head (λ (entry : Entry). entry.seat < length seats) entry (later ++ whole)
+        (subst (All (λ (entry : Entry). entry.seat < length seats)) is left.made) in
+        let seat = get_or seats entry.seat first in
+        let there = slice_get-get_or seats entry.seat first below in
+        let all = at-all (HasAll (log_left ended)) seats entry.seat seat left.logs there in
+        let own = each entry.seat seat there in
+        let same : all.later ≡ entry ∷ later =
+        append_cancel_right all.later (entry ∷ later) whole
+        (ap (λ l. all.later ++ l) (sym own.0) ∙ sym all.is ∙ is) in
+        let none-own : calls_of entry.seat (entry ∷ later) ≡ [] =
+        ap (calls_of entry.seat) (sym same) ∙ ap (λ k. calls_of k all.later) (sym own.1) ∙ all.others in
+        let some-own : calls_of entry.seat (entry ∷ later)
+        ≡ (entry.call, entry.reply) ∷ calls_of entry.seat later =
+        ap (λ b. cond b ((entry.call, entry.reply) ∷ calls_of entry.seat later)
+        (calls_of entry.seat later)) (eq-eqb entry.seat entry.seat refl) in
+        absurd (omega (arith, ap length (sym some-own ∙ none-own)))
+
+-- a shape for twice the keys that were counted has room for them
+pub has-room-left :
+    (p : Plan) (n : ℕ) (m : MapOf) (filled past : List Event) (know counted-know : ℕ → List Event)
+    (before after : List HandleOf) (size keys : ℕ) → 1 ≤ n → AreHeld m filled past n know after
+    → AreCountedIn m counted-know before after size → size < 2 ^ MAX_EXPONENT → size ≤ keys
+    → HasSlots keys p → HaveTooMany p after
+    → ⊥
+has-room-left p n m filled past know counted-know before after size keys some held counted few fewer room many =
+    let first = get_or (seats_of_each after) 0 many.0.seat in
+    let at : slice_get (seats_of_each after) 0 ≡ Some first =
+    slice_get-get_or (seats_of_each after) 0 many.0.seat
+    (omega (arith, length-each after, held.count, some)) in
+    let left : EndedWith (seats_of_each after) many.2.ended =
+    subst (λ seats. EndedWith seats many.2.ended) many.1 many.2.left in
+    let is = one-left (seats_of_each after) counted.whole first many.2.ended left at
+    (λ i seat here.
+    let h = handle-at after i seat here in (
+      ap log (sym h.2) ∙ counted.logs i h.0 h.1,
+      ap (λ (s : SeatOf). s.chain.number) (sym h.2) ∙ (held.each i h.0 h.1).0.number,
+    )) in
+    let keys-left = ap (λ l. length (numbers.entries (map_of_log l))) is in
+    elim room [
+      | inl more ↦ omega (arith, more, fewer, many.2.small, keys-left, counted.keys)
+      | inr great ↦ omega (arith, great, few, many.2.small, keys-left, counted.keys)
+    ]
 
 module _
     (p : Plan) (m : MapOf) (e : EpochIn) (knew : ℕ → List Event) (before after : List HandleOf)

@@ -2,30 +2,26 @@
 use Rattle.std.proofs.Common.{◌≡◌, ◌≢◌, ◌∙◌, ◌++◌, ◌∷◌, ◌<◌, ◌≤◌, ◌==◌, ◌⊎◌, cond, false, true, if◌then◌else◌, arith, [], ℕ, List, All, ap, inl, inr, refl, subst, sym}
 use Rattle.std.proofs.lemmas.Bool.{cases_lt}
 use Rattle.std.proofs.lemmas.Bool.Decides.{nat_tests}
-use Rattle.std.specs.Prelude.{Err, IfErr, Ok, Result, nat_lt}
+use Rattle.std.specs.Prelude.{Err, IfErr, None, Ok, Option, Result, Some, nat_lt}
 use Rattle.std.specs.Result.{IsErrAnd}
 use Rattle.std.proofs.lemmas.List.{append-nil}
 use Rattle.std.proofs.lemmas.List.Elements.{All-cons, All-head, All-tail}
-use Rattle.nb_core.specs.Calls.{Fills}
 use Rattle.nb_core.specs.Log.{Entry, IsReplayed, calls_of, log_of, map_after, map_of_log, reply_of}
 use Rattle.nb_core.specs.declared.calls.Call.{Call}
 use Rattle.nb_core.specs.declared.calls.Reply.{Reply}
-use Rattle.nb_core.specs.declared.events.Event.{Event}
-use Rattle.nb_map.specs.Ending.{EndedOf, map_left}
+use Rattle.nb_map.specs.Ending.{EndedOf}
 use Rattle.nb_map.specs.Entries.{IsRead}
 use Rattle.nb_lasting.proofs.Dealt.{there_is}
 use Rattle.nb_lasting.proofs.Epochs.{goes_on}
 use Rattle.nb_lasting.proofs.Sharing.{Same, decided}
 use Rattle.nb_lasting.specs.Epochs.{HasGoneOnBy}
-use Rattle.nb_lasting.specs.Guests.{GoesOnTo, GuestHasCalled, GuestIsRefused, GuestOf, HaveCalled, HaveCome, HaveEnded, IsOneLogOf, IsWhyRefused, LacksReads, OneLogOfGuests, SharedOf}
+use Rattle.nb_lasting.specs.Guests.{GoesOnTo, GuestHasCalled, GuestIsRefused, GuestOf, HaveCalled, HaveCome, HaveEnded, IsOneLogOf, LacksReads, OneLogOfGuests, SharedOf}
 use Rattle.nb_lasting.specs.Shared.{IsOfGuest}
-use Rattle.nb_lasting.specs.Lasting.{as_write_fault}
-use Rattle.nb_lasting.specs.declared.faults.GrowFault.TheVariants as grow_fault
-use Rattle.nb_lasting.specs.declared.faults.GrowFault.{GrowFault}
+use Rattle.nb_lasting.specs.Lasting.{IsRefusedFor}
 use Rattle.nb_lasting.specs.declared.faults.WriteFault.{WriteFault}
 use Rattle.nb_map.specs.declared.faults.PutFault.{PutFault}
-use Rattle.nb_lasting.specs.Holding.{HasCalledIn, HasWrittenIn, IsJustIn}
-use Rattle.nb_lasting.specs.inside.Guests.{HasWrittenHere}
+use Rattle.nb_lasting.specs.Holding.{HasCalledIn, HasTriedIn, HasWrittenIn, IsJustIn}
+use Rattle.nb_lasting.specs.inside.Guests.{GuestHasTried, HasWrittenHere}
 use Rattle.nb_lasting.specs.declared.shared.LaneView.{LaneView}
 
 -- ---- calls and reads
@@ -96,6 +92,21 @@ written-through call before after old new (Err fault) of number is-old is-new ca
   subst (λ l. IsJustIn call l fault) (sym is-new) called.1,
 )
 
+-- what a write with all handles came to
+pub tried-through :
+    (call : Call) (before after : GuestOf) (old new : LaneView) (result : Result (Option Reply) WriteFault)
+    → after.of ≡ before.of → after.number ≡ before.number → before.log ≡ log_of old.seen
+    → after.log ≡ log_of new.seen → HasTriedIn before.number old new call result
+    → GuestHasTried call before after result
+tried-through call before after old new (Ok None) of number is-old is-new called =
+    called_through before after old new [] of number is-old is-new called
+tried-through call before after old new (Ok (Some reply)) of number is-old is-new called =
+    called_through before after old new ((call, reply) ∷ []) of number is-old is-new called
+tried-through call before after old new (Err fault) of number is-old is-new called = record {
+  unmade = called_through before after old new [] of number is-old is-new called.0;
+  why = subst (λ l. IsRefusedFor call (map_of_log l) fault) (sym is-new) called.1;
+}
+
 -- one after another
 pub goes-on-to :
     (first middle : GuestOf) (whole : List Entry) (made later : List (Call × Reply))
@@ -124,19 +135,22 @@ pub then-first :
 then-first first middle last made one two =
     subst (GuestHasCalled first last) (append-nil made) (then-called first middle last [] made one two)
 
--- a call that needs room is refused it
-pub refused-room :
-    (call : Call) (log : List Entry) (fault : GrowFault) → Fills call
-    → IsWhyRefused call log (as_write_fault fault)
-refused-room call log grow_fault.Full fills = fills
-refused-room call log grow_fault.OutOfMemory fills = fills
-
 -- what a write came to after that
 pub then-refused :
     (call : Call) (first middle last : GuestOf) (fault : WriteFault) → GuestHasCalled first middle []
     → GuestIsRefused call middle last fault → GuestIsRefused call first last fault
 then-refused call first middle last fault one two =
     record { unmade = then-first first middle last [] one two.unmade; why = two.why }
+
+pub then-tried :
+    (call : Call) (first middle last : GuestOf) (result : Result (Option Reply) WriteFault)
+    → GuestHasCalled first middle [] → GuestHasTried call middle last result
+    → GuestHasTried call first last result
+then-tried call first middle last (Ok None) one two = then-first first middle last [] one two
+then-tried call first middle last (Ok (Some reply)) one two =
+    then-first first middle last ((call, reply) ∷ []) one two
+then-tried call first middle last (Err fault) one two =
+    then-refused call first middle last fault one two
 
 pub if-err : {A B : Type 0} (result : Result A B) (fault : B) (P : B → Type 0)
     → IsErrAnd result (λ e. e ≡ fault) → P fault → IfErr result P

@@ -1,11 +1,17 @@
 -- All handles of a map, each with one seat, are made one, which is counted or made anew, and parted
 -- again.
-use Rattle.std.specs.Prelude.{◌≡◌, ◌≤◌, ℕ, List, [], All, IfErr, IfOk, Result, ⊤, length, map}
+use Rattle.std.specs.Prelude.{◌≡◌, ◌≤◌, ℕ, List, [], All, Err, IfErr, IfOk, Result, Some, ⊤, length, map, slice_get, slice_set}
 use Rattle.nb_core.specs.Plans.{Plan}
-use Rattle.nb_map.specs.Handles.{HandleOf, IsSameMap, handle_on, seats_of}
+use Rattle.nb_core.specs.declared.calls.Call.{Call}
+use Rattle.nb_core.specs.declared.calls.Reply.{Reply}
+use Rattle.nb_map.specs.Handles.{HandleOf, IsSameMap, KeepsRest, handle_on, seats_of}
 use Rattle.nb_map.specs.Maps.{MapOf, SeatOf}
-use Rattle.nb_map.specs.Renewing.{HasRenewed, IsKept}
+use Rattle.nb_map.specs.Progress.{Limit}
+use Rattle.nb_map.specs.Promises.{HasWritten, replied_or_refused}
+use Rattle.nb_map.specs.Renewing.{HasRenewed, HasTooMany, IsKept}
 use Rattle.nb_map.specs.Settling.{HaveSettled}
+use Rattle.nb_map.specs.declared.faults.PutFault.{PutFault}
+use Rattle.nb_map.specs.declared.faults.RenewFault.TheVariants as renew_fault
 use Rattle.nb_map.specs.declared.faults.RenewFault.{RenewFault}
 use Rattle.nb_map.specs.declared.faults.SettleFault.{SettleFault}
 
@@ -36,6 +42,12 @@ pub record IsPartedAnew (p : Plan) (before after : List HandleOf) (result : Resu
   pub parted : after ≡ map (handle_on whole.map) (seats_of whole)
   pub renewed : IfOk result (λ done. HasRenewed p joined whole)
   pub kept : IfErr result (λ fault. IsKept joined whole)
+  pub full : result ≡ Err renew_fault.Full → HasTooMany p joined
+
+-- the map of these handles has more keys than the last table of the shape has slots
+abbrev pub HaveTooMany : Plan → List HandleOf → Type 0
+HaveTooMany p handles =
+    (joined : HandleOf) × (seats_of joined ≡ seats_of_each handles) × HasTooMany p joined
 
 -- The handles were one, with all their seats in order; its keys were counted, or memory for that was
 -- refused; and it was parted again.
@@ -48,3 +60,14 @@ pub record IsPartedCounted (before after : List HandleOf) (result : Result ℕ S
   pub same : IsSameMap joined whole
   pub settled : IfOk result (HaveSettled joined.map (seats_of joined) (seats_of whole))
   pub kept : IfErr result (λ refused. whole ≡ joined)
+
+-- the handle of this lane has made this write, or was refused it; the others are as they were
+pub record HasWrittenBy (lane : ℕ) (call : Call) (before after : List HandleOf)
+    (result : Result Reply PutFault) : Type 0 where
+  pub old : HandleOf
+  pub new : HandleOf
+  pub limit : Limit
+  pub was : slice_get before lane ≡ Some old
+  pub is : after ≡ slice_set before lane new
+  pub rest : KeepsRest old new
+  pub wrote : HasWritten old.map call old.seat new.seat limit (replied_or_refused result)

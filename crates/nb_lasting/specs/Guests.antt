@@ -1,16 +1,15 @@
 -- A map without an end that guests share, each in a thread of its own: what their calls promise, and
 -- what holds at its end. It is told in words of calls alone.
-use Rattle.std.specs.Prelude.{◌≡◌, ◌<◌, ◌∷◌, ◌++◌, ◌⊎◌, ℕ, Bool, true, List, [], All, Option, Some, length, slice_get}
+use Rattle.std.specs.Prelude.{◌≡◌, ◌<◌, ◌∷◌, ◌++◌, ◌⊎◌, ℕ, Bool, List, [], All, Option, Some, length, slice_get}
 use Rattle.atomic_table.specs.Seated.{TableId}
-use Rattle.nb_core.specs.Calls.{Fills, overflows}
 use Rattle.nb_core.specs.Log.{Entry, IsReplayed, calls_of, map_of_log}
 use Rattle.nb_core.specs.declared.calls.Call.{Call}
 use Rattle.nb_core.specs.declared.calls.Reply.{Reply}
 use Rattle.nb_map.specs.Ending.{EndedOf, map_left}
 use Rattle.nb_map.specs.Entries.{IsRead}
 use Rattle.nb_lasting.specs.Epochs.{HasGoneOnBy}
+use Rattle.nb_lasting.specs.Lasting.{IsRefusedFor}
 use Rattle.nb_lasting.specs.Shared.{IsOfGuest}
-use Rattle.nb_lasting.specs.declared.faults.WriteFault.TheVariants as fault
 use Rattle.nb_lasting.specs.declared.faults.WriteFault.{WriteFault}
 
 -- a guest: the map that it is of, its number there, and the log that it knows: the calls of all
@@ -63,18 +62,11 @@ abbrev pub GuestHasMatched : Call → (before after : GuestOf) → Bool → Type
 GuestHasMatched call before after matched =
     (reply : Reply) × (reply.matched ≡ matched) × GuestHasReplied call before after reply
 
--- Why a write may be refused: only one that puts a number at an absent key takes room, or memory; and
--- an add is refused where its sum is past the range, in the map that the log leaves.
-abbrev pub IsWhyRefused : Call → List Entry → WriteFault → Type 0
-IsWhyRefused call log fault.Full = Fills call
-IsWhyRefused call log fault.OutOfMemory = Fills call
-IsWhyRefused call log fault.ValueRange = overflows call (map_of_log log) ≡ true
-
--- the call is refused, and isn't made
+-- the call is refused, for a reason that holds of the map that the log leaves, and isn't made
 pub record GuestIsRefused (call : Call) (before after : GuestOf) (fault : WriteFault) :
     Type 0 where
   pub unmade : GuestHasCalled before after []
-  pub why : IsWhyRefused call after.log fault
+  pub why : IsRefusedFor call (map_of_log after.log) fault
 
 -- ---- the beginning and the end
 

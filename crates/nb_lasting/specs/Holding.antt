@@ -1,8 +1,8 @@
 -- What a token has to hold that gives a lane's handle back.
-use Rattle.std.specs.Prelude.{◌≡◌, ◌++◌, ◌∷◌, ℕ, All, Err, Ok, Option, Result, Some, List, [], true}
+use Rattle.std.specs.Prelude.{◌≡◌, ◌++◌, ◌∷◌, ℕ, All, Err, None, Ok, Option, Result, Some, List, [], true}
 use Rattle.atomic_table.specs.Table.{Me}
 use Rattle.nb_core.specs.Plans.{Plan}
-use Rattle.nb_core.specs.Calls.{Fills, overflows}
+use Rattle.nb_core.specs.Calls.{overflows}
 use Rattle.nb_core.specs.Log.{Entry, log_of, map_of_log}
 use Rattle.nb_core.specs.declared.calls.Call.{Call}
 use Rattle.nb_core.specs.declared.calls.Reply.{Reply}
@@ -12,7 +12,10 @@ use Rattle.nb_map.specs.Handles.{HandleOf}
 use Rattle.nb_map.specs.declared.faults.PutFault.TheVariants as put_fault
 use Rattle.nb_map.specs.declared.faults.PutFault.{PutFault}
 use Rattle.nb_lasting.specs.Epochs.{HasGoneOnBy}
+use Rattle.nb_lasting.specs.Lasting.{IsNewKey, IsRefusedFor}
 use Rattle.nb_lasting.specs.Shared.{EpochIn, Holds, HoldsAnew, IsCurrent}
+use Rattle.nb_lasting.specs.declared.faults.WriteFault.TheVariants as fault
+use Rattle.nb_lasting.specs.declared.faults.WriteFault.{WriteFault}
 use Rattle.nb_lasting.specs.declared.shared.LaneView.{LaneView}
 
 -- a guest that has the handle of its own lane, whatever it has called
@@ -56,7 +59,7 @@ pub record HasCalledIn (lane : ℕ) (before after : LaneView) (made : List (Call
 
 -- why a write through a lane is refused, by the log that the guest knows then
 abbrev pub IsJustIn : Call → List Entry → PutFault → Type 0
-IsJustIn call log put_fault.Full = Fills call
+IsJustIn call log put_fault.Full = IsNewKey call (map_of_log log)
 IsJustIn call log put_fault.Contended = Unit {0}
 IsJustIn call log put_fault.ValueRange = overflows call (map_of_log log) ≡ true
 
@@ -66,3 +69,20 @@ abbrev pub HasWrittenIn :
 HasWrittenIn lane before after call (Ok reply) = HasCalledIn lane before after ((call, reply) ∷ [])
 HasWrittenIn lane before after call (Err fault) =
     HasCalledIn lane before after [] × IsJustIn call (log_of after.seen) fault
+
+-- what a write with all handles promises: it is made; or nothing is called, and the map may have more
+-- room; or it is refused
+abbrev pub HasTriedIn :
+    (lane : ℕ) → (before after : LaneView) → Call → Result (Option Reply) WriteFault → Type 0
+HasTriedIn lane before after call (Ok None) = HasCalledIn lane before after []
+HasTriedIn lane before after call (Ok (Some reply)) =
+    HasCalledIn lane before after ((call, reply) ∷ [])
+HasTriedIn lane before after call (Err fault) =
+    HasCalledIn lane before after [] × IsRefusedFor call (map_of_log (log_of after.seen)) fault
+
+-- what it answers, of what the write by the guest's own handle did
+abbrev pub tried_of : Result Reply PutFault → Result (Option Reply) WriteFault
+tried_of (Ok reply) = Ok (Some reply)
+tried_of (Err put_fault.Full) = Ok None
+tried_of (Err put_fault.Contended) = Ok None
+tried_of (Err put_fault.ValueRange) = Err fault.ValueRange

@@ -1,14 +1,18 @@
 -- What a renewer holds: the handles of the lanes below a number, and of all lanes at last.
-use Rattle.std.specs.Prelude.{◌≡◌, ◌≢◌, ◌<◌, ◌≤◌, ℕ, zero, suc, All, List, [], ◌∷◌, Option, Some, None, IfErr, IfOk, Result, ⊤, length, slice_get}
+use Rattle.std.specs.FinMap as numbers
+use Rattle.std.specs.Prelude.{◌≡◌, ◌≢◌, ◌*◌, ◌<◌, ◌≤◌, ℕ, zero, suc, All, List, [], ◌∷◌, Option, Some, None, IfErr, IfOk, Result, ⊤, length, slice_get}
 use Rattle.atomic_table.specs.Table.{Me}
-use Rattle.nb_core.specs.Log.{Entry, log_of}
+use Rattle.nb_core.specs.Log.{Entry, Numbers, log_of, map_of_log}
+use Rattle.nb_core.specs.Meaning.{IsCrowded}
 use Rattle.nb_core.specs.Plans.{Plan}
 use Rattle.nb_core.specs.declared.events.Event.{Event}
 use Rattle.nb_map.specs.Handles.{HandleOf}
 use Rattle.nb_map.specs.Maps.{MapOf}
 use Rattle.nb_map.specs.declared.faults.RenewFault.{RenewFault}
 use Rattle.nb_lasting.specs.Epochs.{HasGoneOnBy}
+use Rattle.nb_lasting.specs.Lasting.{IsGreatest}
 use Rattle.nb_lasting.specs.Shared.{EpochIn, IsCurrent, IsLane, IsOfGuest, KnowsIn}
+use Rattle.nb_lasting.specs.inside.Present.{HasSlots}
 use Rattle.nb_lasting.specs.declared.shared.Out.{Out}
 use Rattle.nb_lasting.specs.declared.shared.LaneView.{LaneView}
 
@@ -75,6 +79,17 @@ pub record HoldsBelow (n : ℕ) (me : Me (Option HandleOf) LaneView) (handles : 
   -- where it is the guest of one of them, what it has seen goes on to what that handle knew
   pub mine : (i : ℕ) → i < n → me.0.guest ≡ Some i → IsCurrent i me.0.seen (knew i)
 
+-- It has them still, and they have called nothing since.
+pub record HoldsStill (n : ℕ) (me : Me (Option HandleOf) LaneView) (handles : List HandleOf) :
+    Type 0 where
+  pub knew : ℕ → List Event
+  pub epoch : EpochIn
+  pub outs : me.0.outs ≡ down knew n
+  pub slots : me.1 ≡ blanks n
+  pub begun : 0 < n → (me.0.filled ≡ epoch.filled) × (me.0.past ≡ epoch.past)
+  pub still : AreStill me.0.map me.0.filled me.0.past n knew handles
+  pub mine : (i : ℕ) → i < n → me.0.guest ≡ Some i → IsCurrent i me.0.seen (knew i)
+
 -- It has them still, and they have called nothing but reads since.
 pub record CanDealBelow (n : ℕ) (me : Me (Option HandleOf) LaneView) (handles : List HandleOf) :
     Type 0 where
@@ -122,3 +137,26 @@ pub record IsSameGuest (before after : LaneView) : Type 0 where
   pub guest : after.guest ≡ before.guest
   pub seen : after.seen ≡ before.seen
   pub dealer : after.dealer ≡ before.dealer
+
+-- ---- a map that has as many keys as it can
+
+-- the handle of this lane has seen other keys in all slots of its last table
+abbrev pub IsCrowdedAt : (lane : ℕ) → List HandleOf → (key : ℕ) → Type 0
+IsCrowdedAt lane handles key =
+    (handle : HandleOf) × (slice_get handles lane ≡ Some handle)
+    × IsCrowded handle.map.chain.shape handle.seat.chain.seen key
+
+-- so is this map, which all handles know: it has as many keys as the greatest table has slots
+pub record IsFullAt (lane : ℕ) (handles : List HandleOf) (content : Numbers) : Type 0 where
+  pub great : IsGreatest content
+  pub absent : (key : ℕ) → IsCrowdedAt lane handles key → numbers.get content key ≡ None
+
+-- ---- a map that was made anew
+
+-- The token's map has slots for twice the keys of the map that all handles knew, and the guest's log
+-- goes on to theirs by no call of the guest but reads.
+pub record HasRoomAnew (own : ℕ) (before after : LaneView) : Type 0 where
+  pub whole : List Event
+  pub current : IsCurrent own before.seen whole
+  pub room :
+      HasSlots (2 * length (numbers.entries (map_of_log (log_of whole)))) after.map.chain.shape

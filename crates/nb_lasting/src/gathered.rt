@@ -1,12 +1,13 @@
 //! All handles of a map, each with one seat, are made one, which is counted or made anew, and parted
 //! again.
-ghost use Rattle.std.specs.Prelude.{IfErr, IfOk, map, ◌≡◌};
+ghost use Rattle.std.specs.Prelude.{IfErr, IfOk, length, map, ◌<◌, ◌≡◌};
+ghost use Rattle.nb_core.specs.declared.calls.Call.TheVariants as call;
 ghost use Rattle.nb_map.specs.Handles.{HandleOf, handle_on, seats_of};
 ghost use Rattle.nb_map.specs.Renewing.{HasRenewed, IsKept};
-ghost use Rattle.nb_lasting.specs.Gathered.{IsPartedCounted, AreSingle, IsPartedAnew, seats_of_each};
+ghost use Rattle.nb_lasting.specs.Gathered.{IsPartedCounted, AreSingle, HasWrittenBy, IsPartedAnew, seats_of_each};
 
-use nb_core::Shape;
-use nb_map::{Handle, RenewFault, SettleFault};
+use nb_core::{Change, Key, Reply, Shape, Want};
+use nb_map::{Handle, PutFault, RenewFault, SettleFault};
 use std::alloc::Global;
 use std::sync::Wait;
 
@@ -65,4 +66,22 @@ pub(crate) fn counted<R: Wait>(
     let mut whole = joined(handles);
     let size = whole.settle(alloc);
     (parted(rt, alloc, whole), size)
+}
+
+/// Makes a write by the handle of a lane.
+pub(crate) fn write_by(
+    handles: &mut Vec<Handle>,
+    lane: usize,
+    key: Key,
+    want: &Want,
+    change: &Change,
+) -> Result<Reply, PutFault>
+    requires lane { lane < length handles.old.items }
+    ensures { HasWrittenBy lane (call.Write key want.now change.now) handles.old.items
+        handles.new.items result }
+{
+    let Some(handle) = handles.get_mut(lane) else {
+        unreachable!();
+    };
+    handle.put_if_match(key, *want, *change, u32::MAX)
 }

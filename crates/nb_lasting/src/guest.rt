@@ -7,18 +7,17 @@ ghost use Rattle.nb_core.specs.declared.calls.Call.TheVariants as call;
 ghost use Rattle.nb_map.specs.NamedCalls.{add_of, put_if_absent_of, put_of, remove_if_of, remove_of, replace_if_of, replace_of};
 ghost use Rattle.nb_lasting.specs.Guests.{GuestHasCalled, GuestHasFound, GuestHasMatched, GuestHasReplied, GuestIsRefused};
 ghost use Rattle.nb_lasting.specs.Holding.{IsIdleGuest};
-ghost use Rattle.nb_lasting.specs.Lasting.{as_write_fault};
-ghost use Rattle.nb_lasting.specs.inside.Guests.{HasMadeOrNone, HasWrittenHere, NeverOverflows};
+ghost use Rattle.nb_lasting.specs.Lasting.{IsNewKey, as_write_fault};
+ghost use Rattle.nb_lasting.specs.inside.Guests.{GuestHasTried, HasWrittenHere, NeverOverflows};
 
 use crate::counting::count_through;
 use crate::faults::{GrowFault, WriteFault};
 use crate::hall::Hall;
-use crate::renewing::renew_through;
-use crate::shapes::shape_for;
+use crate::renewing::{renew_through, write_or_renew};
 use crate::shared::Token;
-use crate::through::{crowded_through, get_through, size_through, write_through};
-use nb_core::{Change, Key, MOST_KEYS, Num, OutOfMemory, Reply, Want};
-use nb_map::{PutFault, RenewFault};
+use crate::through::{crowded_through, get_through, write_through};
+use nb_core::{Change, Key, Num, OutOfMemory, Reply, Want};
+use nb_map::PutFault;
 use std::alloc::Global;
 use std::marker::Model;
 use std::sync::atomic::Ordering;
@@ -112,11 +111,8 @@ impl Guest {
         want: &Want,
         change: &Change,
     ) -> Result<Option<Reply>, WriteFault>
-        ensures wrote { IfOk result (HasMadeOrNone (call.Write key want.now change.now) self.old self.new) }
-        ensures refused { IfErr result (GuestIsRefused (call.Write key want.now change.now)
-            self.old self.new) }
+        ensures { GuestHasTried (call.Write key want.now change.now) self.old self.new result }
     {
-        let renewals = self.hall.renewals.load(Ordering::SeqCst);
         match self.write_here(rt, key, want, change) {
             Ok(reply) => {
                 // Guests may lie side by side: no store where none is needed.
@@ -127,11 +123,30 @@ impl Guest {
             }
             Err(PutFault::ValueRange) => Err(WriteFault::ValueRange),
             Err(PutFault::Contended) => Ok(None),
-            Err(PutFault::Full) => {
-                self.renew(rt, renewals)?;
-                Ok(None)
-            }
+            Err(PutFault::Full) => self.write_or_renew(rt, key, want, change),
         }
+    }
+
+    /// Makes a write that found the map full, if it has room by now, or else the map anew.
+    fn write_or_renew<R: Wait>(
+        &mut self,
+        rt: &R,
+        key: Key,
+        want: &Want,
+        change: &Change,
+    ) -> Result<Option<Reply>, WriteFault>
+        requires new_key { IsNewKey (call.Write key want.now change.now) (map_of_log self.old.log) }
+        ensures { GuestHasTried (call.Write key want.now change.now) self.old self.new result }
+    {
+        write_or_renew(
+            rt,
+            &self.hall,
+            &mut self.token,
+            self.lane,
+            key,
+            want,
+            change,
+        )
     }
 
     /// Makes a write on the map that is there.
@@ -170,19 +185,6 @@ impl Guest {
         self.hall.renewals.load(Ordering::SeqCst)
     }
 
-    /// About how many keys the map has.
-    fn size_estimate<R: Wait>(&mut self, rt: &R) -> usize
-        ensures { GuestHasCalled self.old self.new [] }
-    {
-        let size = size_through(rt, &self.hall.table.shared, &mut self.token, self.lane);
-        // What others count meanwhile may make it less than nothing.
-        if size > MOST_KEYS as u64 {
-            0
-        } else {
-            size as usize
-        }
-    }
-
     /// Whether more than two thirds of the last table are taken.
     fn is_crowded<R: Wait>(&mut self, rt: &R) -> bool
         ensures { GuestHasCalled self.old self.new [] }
@@ -209,25 +211,7 @@ impl Guest {
     fn renew<R: Wait>(&mut self, rt: &R, renewals: u64) -> Result<(), GrowFault>
         ensures { GuestHasCalled self.old self.new [] }
     {
-        let keys = self.size_estimate(rt).saturating_mul(2);
-        let seats = self.hall.table.slot_count();
-        match renew_through(
-            rt,
-            &self.hall,
-            &mut self.token,
-            shape_for(keys, seats),
-            renewals,
-        ) {
-            Ok(_) => Ok(()),
-            Err(RenewFault::Full) => {
-                if keys >= MOST_KEYS {
-                    Err(GrowFault::Full)
-                } else {
-                    Ok(())
-                }
-            }
-            Err(_) => Err(GrowFault::OutOfMemory),
-        }
+        renew_through(rt, &self.hall, &mut self.token, self.lane, renewals)
     }
 
     /// A write that puts no sum.

@@ -118,6 +118,52 @@ fn threads_fill(rt: HostRuntime) {
     }
 }
 
+/// Asks for the size again and again: it never falls, and is never past what all have put at last.
+fn asks<R: Wait + Abort>(rt: &R, guest: &mut Guest)
+    ensures { guest.new.of ≡ guest.old.of }
+{
+    let mut known = 0;
+    for _ in 0..300 {
+        let Ok(size) = guest.size(rt) else {
+            panic!(rt; "memory")
+        };
+        assert!(rt; known <= size && size <= 20_000);
+        known = size;
+    }
+}
+
+/// One asks for the size while two put keys, through renewals. The last size is exact.
+#[test]
+fn size_while_threads_put(rt: HostRuntime) {
+    let (shared, mut guests) = opened(&rt, rt.alloc(), 3);
+    thread::for_each_mut(
+        &rt,
+        guests.as_mut_slice(),
+        3,
+        &|thread: usize, guest: &mut Guest|
+            ensures { guest.exit.now.of ≡ guest.entry.now.of }
+        {
+            if thread == 0 {
+                asks(&rt, guest);
+            } else {
+                fills(&rt, guest, (thread % 4) as u32);
+            }
+        },
+    );
+    thread::for_each_mut(
+        &rt,
+        guests.as_mut_slice(),
+        1,
+        &|_, guest: &mut Guest|
+            ensures { guest.exit.now.of ≡ guest.entry.now.of }
+        {
+            let size = guest.size(&rt);
+            assert!(rt; size == Ok(20_000) && guest.renewals() > 0);
+        },
+    );
+    assert!(rt; ended(&rt, shared, guests).size() == 20_000);
+}
+
 /// Each call by its name, beside two guests that make none: they hold up nobody, also where the map
 /// is made anew.
 #[test]
@@ -193,10 +239,11 @@ fn guests_refused_memory(rt: HostRuntime) {
     assert!(rt; ended(&rt, shared, guests).size() == 200);
 }
 
-/// Puts a hundred keys, and again where memory was refused.
+/// Asks for the size and puts a hundred keys, and again where memory was refused.
 fn tries_again<R: Wait + Abort>(rt: &R, guest: &mut Guest)
     ensures { guest.new.of ≡ guest.old.of }
 {
+    assert!(rt; guest.size(rt).is_ok() || guest.size(rt).is_ok());
     let own = (guest.number() % 2) as u32;
     for word in 0..100_u32 {
         let key = Key::from(2 * word + own);

@@ -1,15 +1,23 @@
 //! The map is made anew while threads call: who does it takes all lanes' handles as they come home.
-ghost use Rattle.std.specs.Prelude.{IfOk, List, Ok, OnErr, OnOk, ◌+◌, ◌*◌, ◌<◌, ◌≤◌, ◌≡◌, false, length, true, vec_capacity};
-ghost use Rattle.nb_core.specs.Log.{Entry, log_of};
-ghost use Rattle.nb_lasting.specs.Holding.{IsIdleGuest};
-ghost use Rattle.nb_lasting.specs.Renewal.{CanComeHome, CanDealAnew, CanDealBelow, HoldsBelow, IsIdleToken, IsSameGuest};
+ghost use Rattle.std.specs.Prelude.{Err, IfOk, List, OnErr, OnOk, Some, [], ◌+◌, ◌*◌, ◌<◌, ◌≤◌, ◌≡◌, ◌↔◌, false, length, true, vec_capacity};
+ghost use Rattle.nb_core.specs.Log.{Entry, IsReplayed, log_of, map_of_log};
+ghost use Rattle.nb_core.specs.declared.calls.Call.TheVariants as call;
+ghost use Rattle.nb_map.specs.declared.faults.PutFault.TheVariants as put_fault;
+ghost use Rattle.nb_map.specs.declared.faults.RenewFault.TheVariants as renew_fault;
+ghost use Rattle.nb_lasting.specs.Gathered.{HaveTooMany};
+ghost use Rattle.nb_lasting.specs.Holding.{HasCalledIn, HasTriedIn, IsIdleGuest, tried_of};
+ghost use Rattle.nb_lasting.specs.Lasting.{IsNewKey};
+ghost use Rattle.nb_lasting.specs.Renewal.{CanComeHome, CanDealAnew, CanDealBelow, HoldsBelow, HasRoomAnew, HoldsStill, IsFullAt, IsIdleToken, IsSameGuest};
 ghost use Rattle.nb_lasting.specs.Shared.{FitsLanes};
+ghost use Rattle.nb_lasting.specs.declared.faults.GrowFault.TheVariants as fault;
 
-use crate::gathered::parted_anew;
+use crate::faults::{GrowFault, WriteFault};
+use crate::gathered::{counted, parted_anew, write_by};
 use crate::hall::Hall;
+use crate::shapes::{GREATEST, shape_for};
 use crate::shared::{Row, Token, give, give_anew, give_back, hold};
-use nb_core::{OutOfMemory, Shape};
-use nb_map::{Handle, RenewFault};
+use nb_core::{Change, Key, OutOfMemory, Reply, Shape, Want};
+use nb_map::{Handle, PutFault, RenewFault};
 use std::alloc::Global;
 use std::sync::Wait;
 use std::sync::atomic::Ordering;
@@ -205,11 +213,12 @@ fn renew_all<R: Wait>(
     requires table { token.old.table_id ≡ hall.now.table.shared.table_id }
     requires shape { shape.seats ≡ hall.now.table.shared.key.seats }
     requires seated { FitsLanes shape.seats token.old.me.0 }
-    requires holds { HoldsBelow shape.seats token.old.me handles.items }
+    requires holds { HoldsStill shape.seats token.old.me handles.items }
     ensures table { token.new.table_id ≡ token.old.table_id }
     ensures guest { IsSameGuest token.old.me.0 token.new.me.0 }
     ensures idle { IsIdleToken token.new.me }
     ensures anew { OnOk result (token.new.me.0.map.chain.shape ≡ shape) }
+    ensures full { result ≡ Err renew_fault.Full → HaveTooMany shape handles.items }
 {
     let (handles, renewed) = parted_anew(rt, hall.alloc, handles, shape);
     let made = renewed.is_ok();
@@ -218,30 +227,122 @@ fn renew_all<R: Wait>(
     renewed
 }
 
+/// Makes the map anew with all handles, with room for twice the keys that it has, and puts them back.
+/// Where it has as many keys as the greatest table has slots, the guest has seen all calls instead.
+pub(crate) fn renew_counted<R: Wait>(
+    rt: &R,
+    hall: &Hall,
+    token: &mut Token,
+    handles: Vec<Handle>,
+    own: usize,
+) -> Result<(), GrowFault>
+    requires table { token.old.table_id ≡ hall.now.table.shared.table_id }
+    requires own { own < hall.now.table.shared.key.seats }
+    requires guest { token.old.me.0.guest ≡ Some own }
+    requires replayed { IsReplayed (log_of token.old.me.0.seen) }
+    requires seated { FitsLanes hall.now.table.shared.key.seats token.old.me.0 }
+    requires holds { HoldsStill hall.now.table.shared.key.seats token.old.me handles.items }
+    ensures table { token.new.table_id ≡ token.old.table_id }
+    ensures idle { IsIdleGuest own token.new.me }
+    ensures called { HasCalledIn own token.old.me.0 token.new.me.0 [] }
+    ensures anew { OnOk result (HasRoomAnew own token.old.me.0 token.new.me.0) }
+    ensures kept { result ≡ Err fault.OutOfMemory → token.new.me.0.seen ≡ token.old.me.0.seen }
+    ensures full { result ≡ Err fault.Full
+        → IsFullAt own handles.items (map_of_log (log_of token.new.me.0.seen)) }
+{
+    let row = &hall.table.shared;
+    let (handles, size) = counted(rt, hall.alloc, handles);
+    let Ok(size) = size else {
+        deal_all(row, token, handles);
+        return Err(GrowFault::OutOfMemory);
+    };
+    if size >= GREATEST {
+        all_home(row, token, handles, own);
+        return Err(GrowFault::Full);
+    }
+    let shape = shape_for((size as usize).saturating_mul(2), hall.table.slot_count());
+    match renew_all(rt, hall, token, handles, shape) {
+        Ok(()) => Ok(()),
+        Err(RenewFault::Full) => unreachable!(),
+        Err(_) => Err(GrowFault::OutOfMemory),
+    }
+}
+
 /// Makes the map anew while other threads call, if there were no more renewals than these: waits for
-/// each lane, and gives all back. It answers whether it has made a new map. The token's guest has
-/// called nothing by it.
+/// each lane, and gives all back. The token's guest has called nothing by it.
 pub(crate) fn renew_through<R: Wait>(
     rt: &R,
     hall: &Hall,
     token: &mut Token,
-    shape: Shape,
+    own: usize,
     renewals: u64,
-) -> Result<bool, RenewFault>
+) -> Result<(), GrowFault>
     requires table { token.old.table_id ≡ hall.now.table.shared.table_id }
-    requires shape { shape.seats ≡ hall.now.table.shared.key.seats }
-    requires idle { IsIdleToken token.old.me }
+    requires own { own < hall.now.table.shared.key.seats }
+    requires idle { IsIdleGuest own token.old.me }
+    requires replayed { IsReplayed (log_of token.old.me.0.seen) }
     ensures table { token.new.table_id ≡ token.old.table_id }
-    ensures guest { IsSameGuest token.old.me.0 token.new.me.0 }
-    ensures idle { IsIdleToken token.new.me }
-    ensures anew { result ≡ Ok true → token.new.me.0.map.chain.shape ≡ shape }
+    ensures idle { IsIdleGuest own token.new.me }
+    ensures called { HasCalledIn own token.old.me.0 token.new.me.0 [] }
 {
     let row = &hall.table.shared;
-    let handles = gather_all(rt, row, token, hall.alloc, shape.seats())?;
+    let handles = gather_all(rt, row, token, hall.alloc, hall.table.slot_count())?;
     if hall.renewals.load(Ordering::SeqCst) != renewals {
         deal_all(row, token, handles);
-        return Ok(false);
+        return Ok(());
     }
-    renew_all(rt, hall, token, handles, shape)?;
-    Ok(true)
+    renew_counted(rt, hall, token, handles, own)
+}
+
+/// Makes a write that found the map full, by the guest's own handle while all others are held; or else
+/// makes the map anew.
+pub(crate) fn write_or_renew<R: Wait>(
+    rt: &R,
+    hall: &Hall,
+    token: &mut Token,
+    own: usize,
+    key: Key,
+    want: &Want,
+    change: &Change,
+) -> Result<Option<Reply>, WriteFault>
+    requires table { token.old.table_id ≡ hall.now.table.shared.table_id }
+    requires own { own < hall.now.table.shared.key.seats }
+    requires idle { IsIdleGuest own token.old.me }
+    requires replayed { IsReplayed (log_of token.old.me.0.seen) }
+    requires new_key { IsNewKey (call.Write key want.now change.now)
+        (map_of_log (log_of token.old.me.0.seen)) }
+    ensures table { token.new.table_id ≡ token.old.table_id }
+    ensures idle { IsIdleGuest own token.new.me }
+    ensures tried { HasTriedIn own token.old.me.0 token.new.me.0
+        (call.Write key want.now change.now) result }
+{
+    let row = &hall.table.shared;
+    let Ok(mut handles) = gather_all(rt, row, token, hall.alloc, hall.table.slot_count()) else {
+        return Err(WriteFault::OutOfMemory);
+    };
+    let reply = write_by(&mut handles, own, key, want, change);
+    if found_full(&reply) {
+        renew_counted(rt, hall, token, handles, own)?;
+        return Ok(None);
+    }
+    all_home(row, token, handles, own);
+    tried(reply)
+}
+
+/// Whether the write found no room.
+fn found_full(reply: &Result<Reply, PutFault>) -> bool
+    ensures { (result ≡ true) ↔ (reply.now ≡ Err put_fault.Full) }
+{
+    matches!(reply, Err(PutFault::Full))
+}
+
+/// What a write comes to that needs no new map.
+fn tried(reply: Result<Reply, PutFault>) -> Result<Option<Reply>, WriteFault>
+    ensures { result ≡ tried_of reply }
+{
+    match reply {
+        Ok(reply) => Ok(Some(reply)),
+        Err(PutFault::Full | PutFault::Contended) => Ok(None),
+        Err(PutFault::ValueRange) => Err(WriteFault::ValueRange),
+    }
 }

@@ -3,10 +3,13 @@ ghost use Rattle.std.specs.Prelude.{◌≡◌, ◌≤◌, max};
 ghost use Rattle.nb_core.specs.declared.shapes.TheConstants.{MAX_SEATS, MOST_KEYS};
 ghost use Rattle.nb_lasting.specs.inside.Present.{HasSlots};
 
-use nb_core::{MOST_KEYS, Shape};
+use nb_core::{MAX_EXPONENT, MOST_KEYS, Shape};
 
 /// The fewest keys that a map is made for.
 pub(crate) const LEAST: usize = 20;
+
+/// How many slots the greatest table has.
+pub(crate) const GREATEST: u64 = 1 << MAX_EXPONENT;
 
 /// The shape for so many keys, or the greatest one, with so many seats.
 pub(crate) fn shape_for(keys: usize, seats: usize) -> Shape

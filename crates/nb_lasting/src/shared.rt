@@ -12,9 +12,7 @@
 //! A lane is out exactly where one view has it, once. Each lane has one guest at most. At the end one token takes the place of each guest
 //! in turn (`become_guest`), and its lane: so it learns that what each has seen goes on to the one log.
 //!
-//! What is left:
-//! - No clause of a guest says that the map has 2^28 keys where it is full. It would go by `full` of `Handle::renew`.
-//! - No clause bounds a call's steps where no renewal comes between.
+//! What is left: no clause bounds a call's steps where no renewal comes between.
 ghost use Rattle.std.specs.Prelude.{[], Some, ℕ, ◌≡◌, ◌≢◌, ◌*◌, ◌<◌, ◌≤◌, true, false};
 ghost use Rattle.nb_lasting.specs.Shared.{HasBegunAnew, HasDealt, HasGiven, HasTaken, FitsLanes, as_guest, dealer_left, new_guest};
 ghost use Rattle.nb_lasting.specs.Holding.{CanDeal, CanGive, CanRenew};

@@ -67,27 +67,6 @@ pub(crate) fn write_through<R: Wait>(
     reply
 }
 
-/// About how many keys the map has.
-pub(crate) fn size_through<R: Wait>(rt: &R, row: &Row, token: &mut Token, lane: usize) -> u64
-    requires table { token.old.table_id ≡ row.now.table_id }
-    requires lane { lane < row.now.key.seats }
-    requires words { row.now.table_id.words ≡ 8 * row.now.key.seats }
-    requires few { row.now.key.seats ≤ 256 }
-    requires slots { row.now.table_id.slots ≡ row.now.key.seats }
-    requires idle { IsIdleGuest lane token.old.me }
-    ensures table { token.new.table_id ≡ token.old.table_id }
-    ensures idle { IsIdleGuest lane token.new.me }
-    ensures called { HasCalledIn lane token.old.me.0 token.new.me.0 [] }
-{
-    hold(rt, row, token, lane);
-    let Some(handle) = token.slot_mut(row, lane) else {
-        unreachable!();
-    };
-    let size = handle.size_estimate();
-    give(row, token, lane);
-    size
-}
-
 /// Whether more than two thirds of the last table are taken.
 pub(crate) fn crowded_through<R: Wait>(rt: &R, row: &Row, token: &mut Token, lane: usize) -> bool
     requires table { token.old.table_id ≡ row.now.table_id }

@@ -1,14 +1,15 @@
 -- What is in a guest, and in a map that guests share, and what their private calls promise.
 use Rattle.std.specs.Arc.{arc_value}
-use Rattle.std.specs.Prelude.{◌≡◌, ◌≢◌, ◌<◌, ◌≤◌, ◌∷◌, [], true, ℕ, Err, Ok, Option, None, Some, Result, vec_capacity}
+use Rattle.std.specs.Prelude.{◌≡◌, ◌≢◌, ◌<◌, ◌≤◌, [], true, Err, Ok, Option, None, Some, Result, vec_capacity}
 use Rattle.nb_core.specs.Calls.{overflows}
 use Rattle.nb_core.specs.Log.{IsReplayed, Numbers, log_of}
 use Rattle.nb_core.specs.declared.calls.Call.{Call}
 use Rattle.nb_core.specs.declared.calls.Reply.{Reply}
 use Rattle.nb_map.specs.declared.faults.PutFault.{PutFault}
-use Rattle.nb_lasting.specs.Guests.{GuestHasCalled, GuestHasReplied, GuestOf, SharedOf}
+use Rattle.nb_lasting.specs.Guests.{GuestHasCalled, GuestHasReplied, GuestIsRefused, GuestOf, SharedOf}
 use Rattle.nb_lasting.specs.Holding.{IsIdleGuest, IsJustIn}
 use Rattle.nb_lasting.specs.Renewal.{IsIdleToken}
+use Rattle.nb_lasting.specs.declared.faults.WriteFault.{WriteFault}
 use Rattle.nb_lasting.specs.declared.guest.Guest.TheInside as guest
 use Rattle.nb_lasting.specs.declared.shared_lasting.SharedLasting.TheInside as shared
 
@@ -43,10 +44,12 @@ pub record IsShared (c : shared.Inside) : Type 0 where
 
 -- ---- a round of a write
 
--- it was made, or not yet
-abbrev pub HasMadeOrNone : Call → (before after : GuestOf) → Option Reply → Type 0
-HasMadeOrNone call before after None = GuestHasCalled before after []
-HasMadeOrNone call before after (Some reply) = GuestHasReplied call before after reply
+-- it was made, or not yet, or is refused
+abbrev pub GuestHasTried :
+    Call → (before after : GuestOf) → Result (Option Reply) WriteFault → Type 0
+GuestHasTried call before after (Ok None) = GuestHasCalled before after []
+GuestHasTried call before after (Ok (Some reply)) = GuestHasReplied call before after reply
+GuestHasTried call before after (Err fault) = GuestIsRefused call before after fault
 
 -- it was made on the map that is there, or refused
 abbrev pub HasWrittenHere : Call → (before after : GuestOf) → Result Reply PutFault → Type 0

@@ -1,4 +1,4 @@
-use Rattle.std.proofs.Common.{◌≡◌, ◌∙◌, ◌≤◌, ap, length, refl, subst, sym, arith}
+use Rattle.std.proofs.Common.{◌∙◌, ◌≤◌, length, refl, subst, sym}
 use Rattle.nb_lasting.specs.Shared.{FitsLanes}
 use Rattle.nb_lasting.proofs.Closed.{have-ended, whole-seats}
 use Rattle.nb_lasting.proofs.Dealt.{all-single, single-map}
@@ -7,11 +7,12 @@ use Rattle.nb_lasting.proofs.closing.close_row.Goals as goal
 
 pub joined-requires : goal.joined-requires
 joined-requires g c = record {
-  single = all-single (length c.args.guests.items) c.gather_guests-handles.new.token.me
-      c.gather_guests-handles.result.items
+  single = all-single (length c.args.guests.items) c.gather_guests-handles.new.token.me.0.map
+      c.gather_guests-handles.new.token.me.0.filled c.gather_guests-handles.new.token.me.0.past
+      c.gather_guests-handles.ensures.gathered.holds.knew c.gather_guests-handles.result.items
       (subst (λ n. 1 ≤ n) (sym c.requires.all.count) c.requires.some)
       (subst (λ n. n ≤ 256) (sym c.requires.all.count) c.requires.few)
-      c.gather_guests-handles.ensures.gathered.holds;
+      c.gather_guests-handles.ensures.gathered.holds.held;
 }
 
 pub unreachable-requires : goal.unreachable-requires
@@ -27,8 +28,9 @@ unreachable-requires g c =
     never-both c.close.result c.in-Err.field-0 c.in-Err.is
     (c.close.ensures.all.1
     (whole-seats n me handles c.joined.result holds seated c.joined.ensures.seats
-    (c.joined.ensures.map (all-single n me handles some few holds)
-    ∙ single-map n me handles some few holds)))
+    (c.joined.ensures.map
+    (all-single n me.0.map me.0.filled me.0.past holds.knew handles some few holds.held)
+    ∙ single-map n me.0.map me.0.filled me.0.past holds.knew handles some few holds.held)))
 
 pub returns : goal.returns
 returns g c =

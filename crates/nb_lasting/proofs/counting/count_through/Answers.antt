@@ -1,9 +1,7 @@
-use Rattle.std.proofs.Common.{◌≡◌, ◌∙◌, ◌<◌, ◌≤◌, ℕ, [], Some, ap, length, refl, subst, sym, arith}
-use Rattle.std.specs.FinMap as numbers
-use Rattle.nb_core.specs.Log.{Entry, log_of, map_of_log}
-use Rattle.nb_lasting.proofs.Counted.{called-home, can-come-home, if-ok, still-by}
-use Rattle.nb_lasting.proofs.Dealt.{all-single}
-use Rattle.nb_lasting.proofs.Renewed.{HasSize}
+use Rattle.std.proofs.Common.{◌∙◌, ◌<◌, ◌≤◌, arith}
+use Rattle.nb_core.specs.Log.{log_of}
+use Rattle.nb_lasting.proofs.Counted.{called-home, can-come-home, size-home, still-by}
+use Rattle.nb_lasting.proofs.Dealt.{held-still, still-single}
 use Rattle.nb_lasting.proofs.counting.count_through.Goals as goal
 
 pub counted-handles-requires : goal.counted-handles-requires
@@ -13,8 +11,10 @@ counted-handles-requires g c =
     let few : c.slot_count-seats.result ≤ 256 =
     omega (arith, c.slot_count-seats.ensures, c.args.hall.now.slots, c.args.hall.now.few) in
     record {
-      single = all-single c.slot_count-seats.result c.gather_all.new.token.me
-          c.in_ok-handles.handles.items some few c.in_ok-handles.ensures.holds;
+      single = still-single c.slot_count-seats.result c.gather_all.new.token.me
+          c.in_ok-handles.handles.items some few
+          (held-still c.slot_count-seats.result c.gather_all.new.token.me c.in_ok-handles.handles.items
+          c.in_ok-handles.ensures.holds);
     }
 
 pub all_home-requires-clause-holds : goal.all_home-requires-clause-holds
@@ -23,7 +23,7 @@ all_home-requires-clause-holds g c =
     let me = c.gather_all.new.token.me in
     let before = c.in_ok-handles.handles.items in
     let after = c.counted-handles.result.0.items in
-    let holds = c.in_ok-handles.ensures.holds in
+    let holds = held-still n me before c.in_ok-handles.ensures.holds in
     let some : 1 ≤ c.slot_count-seats.result =
     omega (arith, c.slot_count-seats.ensures, c.args.hall.now.slots, c.args.hall.now.some) in
     let few : c.slot_count-seats.result ≤ 256 =
@@ -43,7 +43,7 @@ returns-in-Ok-clause-called g c =
     let me = c.gather_all.new.token.me in
     let before = c.in_ok-handles.handles.items in
     let after = c.counted-handles.result.0.items in
-    let holds = c.in_ok-handles.ensures.holds in
+    let holds = held-still n me before c.in_ok-handles.ensures.holds in
     let some : 1 ≤ c.slot_count-seats.result =
     omega (arith, c.slot_count-seats.ensures, c.args.hall.now.slots, c.args.hall.now.some) in
     let few : c.slot_count-seats.result ≤ 256 =
@@ -62,22 +62,16 @@ returns-in-Ok-clause-size g c =
     let me = c.gather_all.new.token.me in
     let before = c.in_ok-handles.handles.items in
     let after = c.counted-handles.result.0.items in
-    let holds = c.in_ok-handles.ensures.holds in
+    let holds = held-still n me before c.in_ok-handles.ensures.holds in
     let some : 1 ≤ c.slot_count-seats.result =
     omega (arith, c.slot_count-seats.ensures, c.args.hall.now.slots, c.args.hall.now.some) in
     let few : c.slot_count-seats.result ≤ 256 =
     omega (arith, c.slot_count-seats.ensures, c.args.hall.now.slots, c.args.hall.now.few) in
     let below : c.args.lane < c.slot_count-seats.result =
     omega (arith, c.slot_count-seats.ensures, c.args.hall.now.slots, c.requires.lane) in
-    let known = still-by n me before after some few holds c.counted-handles.result.1
-    c.counted-handles.ensures in
-    let can = can-come-home n me before after some few holds known.0 c.args.lane
-    (c.gather_all.ensures.guest.guest ∙ c.requires.idle.guest) below in
-    if-ok c.counted-handles.result.1 c.in-Ok.size
-    (λ size. (i : ℕ) → i < c.slot_count-seats.result → HasSize (known.0.know i) size) c.in-Ok.is known.1
-    c.args.lane below
-    ∙ ap (λ l. length (numbers.entries (map_of_log l)))
-    (sym (c.all_home.ensures.seen (log_of (known.0.know c.args.lane)) can))
+    size-home n me before after some few holds c.counted-handles.result.1 c.counted-handles.ensures
+    c.in-Ok.size c.in-Ok.is c.args.lane (c.gather_all.ensures.guest.guest ∙ c.requires.idle.guest) below
+    c.all_home.new.token.me.0 c.all_home.ensures.seen
 
 pub returns-in-Err-clause-called : goal.returns-in-Err-clause-called
 returns-in-Err-clause-called g c =
@@ -85,7 +79,7 @@ returns-in-Err-clause-called g c =
     let me = c.gather_all.new.token.me in
     let before = c.in_ok-handles.handles.items in
     let after = c.counted-handles.result.0.items in
-    let holds = c.in_ok-handles.ensures.holds in
+    let holds = held-still n me before c.in_ok-handles.ensures.holds in
     let some : 1 ≤ c.slot_count-seats.result =
     omega (arith, c.slot_count-seats.ensures, c.args.hall.now.slots, c.args.hall.now.some) in
     let few : c.slot_count-seats.result ≤ 256 =

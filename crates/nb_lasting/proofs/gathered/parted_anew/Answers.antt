@@ -9,4 +9,5 @@ returns g c = record {
   parted = c.parted.ensures;
   renewed = c.renew-renewed.ensures.renewed;
   kept = c.renew-renewed.ensures.kept;
+  full = c.renew-renewed.ensures.full;
 }

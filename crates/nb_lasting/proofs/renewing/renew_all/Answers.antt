@@ -1,13 +1,13 @@
-use Rattle.std.proofs.Common.{◌≡◌, ◌∙◌, ◌≤◌, ap, subst, sym, true, false, arith}
+use Rattle.std.proofs.Common.{◌∙◌, ◌≤◌, ap, subst, sym}
 use Rattle.nb_map.specs.Maps.{MapOf}
-use Rattle.nb_lasting.proofs.Dealt.{all-single, deals, on_ok}
+use Rattle.nb_lasting.proofs.Dealt.{deals, on_ok, still-single}
 use Rattle.nb_lasting.proofs.renewing.renew_all.Goals as goal
 
 pub parted_anew-handles-requires : goal.parted_anew-handles-requires
 parted_anew-handles-requires g c =
     let seats = c.requires.shape in
     record {
-      single = all-single c.args.shape.seats c.args.token.now.me c.args.handles.items
+      single = still-single c.args.shape.seats c.args.token.now.me c.args.handles.items
           (subst (λ n. 1 ≤ n) (sym seats) c.args.hall.now.some) (subst (λ n. n ≤ 256) (sym seats) c.args.hall.now.few)
           c.requires.holds;
     }
@@ -41,3 +41,7 @@ returns-clause-anew g c =
     ap (λ (m : MapOf). m.chain.shape)
     (c.deal_renewed.ensures.map (c.is_ok-made.ensures.value ∙ good) shaped.0)
     ∙ shaped.1)
+
+pub returns-clause-full : goal.returns-clause-full
+returns-clause-full g c full =
+    let is = c.parted_anew-handles.ensures in (is.joined, is.seats, is.full full)

@@ -1,6 +1,6 @@
-use Rattle.std.proofs.Common.{◌≡◌, ◌∙◌, [], ◌∷◌, Some, true, refl, subst, sym}
+use Rattle.std.proofs.Common.{◌∙◌, Some, refl, subst, sym}
 use Rattle.nb_map.specs.Handles.{KeepsRest}
-use Rattle.nb_map.specs.Logs.{HasLogged}
+use Rattle.nb_map.specs.Logs.{HasLogged, made_in}
 use Rattle.nb_core.specs.declared.calls.Call.TheVariants.{Write}
 use Rattle.nb_lasting.proofs.Calling.{can-give, has-called, idle-again, map-is, slot-rest, taken-is, write-logged}
 use Rattle.nb_lasting.proofs.through.write_through.Goals as goal
@@ -23,11 +23,12 @@ give-requires-clause-holds g c =
     (Write c.args.key c.args.want.now c.args.change.now) c.in-Some.handle.seat
     c.put_if_match-reply.new.self.seat _ c.put_if_match-reply.result
     c.put_if_match-reply.ensures.wrote in
+    let made = made_in (Write c.args.key c.args.want.now c.args.change.now) c.put_if_match-reply.result in
     can-give c.args.lane c.args.token.now.me c.hold.new.token.me c.hold.ensures.taken
-    c.put_if_match-reply.new.self wrote.0 c.requires.idle
+    c.put_if_match-reply.new.self made c.requires.idle
     (subst (λ h. KeepsRest h c.put_if_match-reply.new.self) (sym same)
     c.put_if_match-reply.ensures.rest)
-    (subst (λ h. HasLogged h.seat c.put_if_match-reply.new.self.seat wrote.0) (sym same) wrote.1) _
+    (subst (λ h. HasLogged h.seat c.put_if_match-reply.new.self.seat made) (sym same) wrote.0) _
     refl
 
 pub returns : goal.returns
@@ -38,20 +39,21 @@ returns g c =
     (Write c.args.key c.args.want.now c.args.change.now) c.in-Some.handle.seat
     c.put_if_match-reply.new.self.seat _ c.put_if_match-reply.result
     c.put_if_match-reply.ensures.wrote in
+    let made = made_in (Write c.args.key c.args.want.now c.args.change.now) c.put_if_match-reply.result in
     let keeps = subst (λ h. KeepsRest h c.put_if_match-reply.new.self) (sym same)
     c.put_if_match-reply.ensures.rest in
-    let logged = subst (λ h. HasLogged h.seat c.put_if_match-reply.new.self.seat wrote.0) (sym same)
-    wrote.1 in
+    let logged = subst (λ h. HasLogged h.seat c.put_if_match-reply.new.self.seat made) (sym same)
+    wrote.0 in
     record {
       table = c.give.ensures.table ∙ c.hold.ensures.table;
       idle = idle-again c.args.lane c.args.token.now.me c.hold.new.token.me c.hold.ensures.taken
-          c.put_if_match-reply.new.self wrote.0 c.requires.idle keeps logged _ refl
+          c.put_if_match-reply.new.self made c.requires.idle keeps logged _ refl
           c.give.new.token.me c.give.ensures.given;
-      called = wrote.2 c.args.lane c.args.token.now.me.0 c.give.new.token.me.0
+      called = wrote.1 c.args.lane c.args.token.now.me.0 c.give.new.token.me.0
           (has-called c.args.lane c.args.token.now.me c.hold.new.token.me c.hold.ensures.taken
-          c.put_if_match-reply.new.self wrote.0 c.requires.idle keeps logged _ refl
+          c.put_if_match-reply.new.self made c.requires.idle keeps logged _ refl
           c.give.new.token.me c.give.ensures.given)
           (map-is c.args.lane c.args.token.now.me c.hold.new.token.me c.hold.ensures.taken
-          c.put_if_match-reply.new.self wrote.0 c.requires.idle keeps logged _ refl
+          c.put_if_match-reply.new.self made c.requires.idle keeps logged _ refl
           c.give.new.token.me c.give.ensures.given);
     }

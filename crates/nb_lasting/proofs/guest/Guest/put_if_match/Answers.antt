@@ -1,7 +1,7 @@
-use Rattle.std.proofs.Common.{◌≡◌, ◌∷◌, [], subst}
+use Rattle.std.proofs.Common.{◌∷◌, [], Ok, subst}
 use Rattle.nb_core.specs.declared.calls.Call.TheVariants.{Write}
 use Rattle.nb_lasting.specs.Guests.{GuestIsRefused}
-use Rattle.nb_lasting.specs.inside.Guests.{HasMadeOrNone}
+use Rattle.nb_lasting.specs.inside.Guests.{GuestHasTried}
 use Rattle.nb_lasting.proofs.Visiting.{if-err, then-first, then-refused}
 use Rattle.nb_lasting.proofs.guest.Guest.put_if_match.Goals as goal
 
@@ -11,15 +11,15 @@ returns-in_err-reply-clause-refused g c =
     if-err c.from_residual.result c.in_err-reply.field-0.0
     (GuestIsRefused call c.args.self.now c.try_write.new.self) c.from_residual.ensures.1
     (then-refused call c.args.self.now c.loop.self c.try_write.new.self c.in_err-reply.field-0.0
-    c.loop.invariant.2 c.in_err-reply.ensures.refused)
+    c.loop.invariant.2 c.in_err-reply.ensures)
 
 pub returns-in-Some-2-clause-wrote : goal.returns-in-Some-2-clause-wrote
 returns-in-Some-2-clause-wrote g c =
     let call = Write c.args.key c.args.want c.args.change in
     then-first c.args.self.now c.loop.self c.try_write.new.self ((call, c.in-Some-2.reply) ∷ [])
     c.loop.invariant.2
-    (subst (HasMadeOrNone call c.loop.self c.try_write.new.self) c.in-Some-2.is
-    c.in_ok-reply.ensures.wrote)
+    (subst (λ reply. GuestHasTried call c.loop.self c.try_write.new.self (Ok reply)) c.in-Some-2.is
+    c.in_ok-reply.ensures)
 
 pub loop-preserved : goal.loop-preserved
 loop-preserved g c =
@@ -27,6 +27,6 @@ loop-preserved g c =
       tt,
       tt,
       then-first c.args.self.now c.loop.self c.try_write.new.self [] c.loop.invariant.2
-          (subst (HasMadeOrNone call c.loop.self c.try_write.new.self) c.in_default.is
-          c.in_ok-reply.ensures.wrote),
+          (subst (λ reply. GuestHasTried call c.loop.self c.try_write.new.self (Ok reply)) c.in_default.is
+          c.in_ok-reply.ensures),
     )

@@ -1,17 +1,17 @@
-use Rattle.std.proofs.Common.{◌≡◌, ◌∷◌, [], refl, subst}
+use Rattle.std.proofs.Common.{[], refl, subst}
 use Rattle.nb_core.specs.Log.{log_of}
 use Rattle.nb_lasting.specs.Guests.{GuestHasCalled, GuestOf}
 use Rattle.nb_lasting.specs.inside.Guests.{guest_of}
 use Rattle.nb_lasting.proofs.Visiting.{called_through}
-use Rattle.nb_lasting.proofs.guest.Guest.size_estimate.Goals as goal
+use Rattle.nb_lasting.proofs.guest.Guest.renew.Goals as goal
 
 pub returns : goal.returns
 returns g c =
     let after : GuestOf = record {
       of = (guest_of c.self.inside).of;
       number = c.self.inside.lane;
-      log = log_of c.size_through-size.new.token.me.0.seen;
+      log = log_of c.renew_through.new.token.me.0.seen;
     } in
     subst (λ (guest : GuestOf). GuestHasCalled guest after []) c.self.view_is
     (called_through (guest_of c.self.inside) after c.self.inside.token.me.0
-    c.size_through-size.new.token.me.0 [] refl refl refl refl c.size_through-size.ensures.called)
+    c.renew_through.new.token.me.0 [] refl refl refl refl c.renew_through.ensures.called)

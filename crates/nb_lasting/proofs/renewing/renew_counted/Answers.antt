@@ -1,0 +1,142 @@
+use Rattle.std.proofs.Common.{◌≡◌, ◌∙◌, ◌*◌, ◌<◌, ◌≤◌, ◌^◌, Err, ap, arith, refl, subst, sym}
+use Rattle.nb_core.specs.Log.{log_of}
+use Rattle.nb_lasting.specs.Renewal.{HoldsStill}
+use Rattle.nb_lasting.specs.inside.Present.{HasSlots}
+use Rattle.nb_lasting.proofs.Counted.{called-home, can-come-home, full-home, nothing-seen, room-anew, room-left, still-by, still-holds}
+use Rattle.nb_lasting.proofs.Dealt.{still-dealt, still-single}
+use Rattle.nb_lasting.proofs.renewing.renew_counted.Goals as goal
+
+pub counted-handles-requires : goal.counted-handles-requires
+counted-handles-requires g c = record {
+  single = still-single c.args.hall.now.table.shared.key.seats c.args.token.now.me c.args.handles.items
+      c.args.hall.now.some c.args.hall.now.few c.requires.holds;
+}
+
+pub deal_all-requires-clause-holds : goal.deal_all-requires-clause-holds
+deal_all-requires-clause-holds g c =
+    let n = c.args.hall.now.table.shared.key.seats in
+    let me = c.args.token.now.me in
+    let before = c.args.handles.items in
+    let after = c.counted-handles.result.0.items in
+    let some = c.args.hall.now.some in
+    let few = c.args.hall.now.few in
+    let holds = c.requires.holds in
+    let result = c.counted-handles.result.1 in
+    let is = c.counted-handles.ensures in
+    let still = (still-by n me before after some few holds result is).0 in
+    still-dealt n me after (still-holds n me before after some few holds still)
+
+pub all_home-requires-clause-holds : goal.all_home-requires-clause-holds
+all_home-requires-clause-holds g c =
+    let n = c.args.hall.now.table.shared.key.seats in
+    let me = c.args.token.now.me in
+    let before = c.args.handles.items in
+    let after = c.counted-handles.result.0.items in
+    let some = c.args.hall.now.some in
+    let few = c.args.hall.now.few in
+    let holds = c.requires.holds in
+    let result = c.counted-handles.result.1 in
+    let is = c.counted-handles.ensures in
+    let still = (still-by n me before after some few holds result is).0 in (
+      log_of (still.know c.args.own),
+      can-come-home n me before after some few holds still c.args.own c.requires.guest c.requires.own,
+    )
+
+pub returns-then-size-ge-GREATEST-clause-called : goal.returns-then-size-ge-GREATEST-clause-called
+returns-then-size-ge-GREATEST-clause-called g c =
+    let n = c.args.hall.now.table.shared.key.seats in
+    let me = c.args.token.now.me in
+    let before = c.args.handles.items in
+    let after = c.counted-handles.result.0.items in
+    let some = c.args.hall.now.some in
+    let few = c.args.hall.now.few in
+    let holds = c.requires.holds in
+    let result = c.counted-handles.result.1 in
+    let is = c.counted-handles.ensures in
+    let still = (still-by n me before after some few holds result is).0 in
+    called-home n me before after some few holds still c.args.own c.requires.guest c.requires.own me.0
+    refl c.all_home.new.token.me.0 c.all_home.ensures.seen
+
+pub returns-then-size-ge-GREATEST-clause-full : goal.returns-then-size-ge-GREATEST-clause-full
+returns-then-size-ge-GREATEST-clause-full g c full =
+    let n = c.args.hall.now.table.shared.key.seats in
+    let me = c.args.token.now.me in
+    let before = c.args.handles.items in
+    let after = c.counted-handles.result.0.items in
+    let some = c.args.hall.now.some in
+    let few = c.args.hall.now.few in
+    let holds = c.requires.holds in
+    let result = c.counted-handles.result.1 in
+    let is = c.counted-handles.ensures in
+    let great : 2 ^ 28 ≤ c.in-Ok.size = omega (arith, c.if-size-ge-GREATEST.true) in
+    full-home n me before after some few holds result is c.in-Ok.size c.in-Ok.is c.args.own
+    c.requires.guest c.requires.own c.all_home.new.token.me.0 c.all_home.ensures.seen great
+
+pub renew_all-requires-clause-holds : goal.renew_all-requires-clause-holds
+renew_all-requires-clause-holds g c =
+    let n = c.args.hall.now.table.shared.key.seats in
+    let me = c.args.token.now.me in
+    let before = c.args.handles.items in
+    let after = c.counted-handles.result.0.items in
+    let some = c.args.hall.now.some in
+    let few = c.args.hall.now.few in
+    let holds = c.requires.holds in
+    let result = c.counted-handles.result.1 in
+    let is = c.counted-handles.ensures in
+    let still = (still-by n me before after some few holds result is).0 in
+    subst (λ k. HoldsStill k me after)
+    (sym (c.shape_for-shape.ensures.seats ∙ c.slot_count.ensures ∙ c.args.hall.now.slots))
+    (still-holds n me before after some few holds still)
+
+pub unreachable-requires : goal.unreachable-requires
+unreachable-requires g c =
+    let n = c.args.hall.now.table.shared.key.seats in
+    let me = c.args.token.now.me in
+    let before = c.args.handles.items in
+    let after = c.counted-handles.result.0.items in
+    let some = c.args.hall.now.some in
+    let few = c.args.hall.now.few in
+    let holds = c.requires.holds in
+    let result = c.counted-handles.result.1 in
+    let is = c.counted-handles.ensures in
+    let less : c.in-Ok.size < 2 ^ 28 = omega (arith, c.if-size-ge-GREATEST.false) in
+    let fewer : c.in-Ok.size ≤ c.saturating_mul.result =
+    omega (arith, c.saturating_mul.ensures, c.if-size-ge-GREATEST.false) in
+    room-left n me before after some few holds result is c.in-Ok.size c.in-Ok.is
+    c.shape_for-shape.result c.saturating_mul.result less fewer
+    c.shape_for-shape.ensures.slots
+    (c.renew_all.ensures.full (c.in-Err-Full.is ∙ ap Err c.in-Err-Full.field-0-is))
+
+pub returns-in-Ok-renew_all-clause-anew : goal.returns-in-Ok-renew_all-clause-anew
+returns-in-Ok-renew_all-clause-anew g c =
+    let n = c.args.hall.now.table.shared.key.seats in
+    let me = c.args.token.now.me in
+    let before = c.args.handles.items in
+    let after = c.counted-handles.result.0.items in
+    let twice : c.saturating_mul.result ≡ 2 * c.in-Ok.size =
+    omega (arith, c.saturating_mul.ensures, c.if-size-ge-GREATEST.false) in
+    room-anew n me before after c.args.hall.now.some c.args.hall.now.few c.requires.holds
+    c.counted-handles.result.1 c.counted-handles.ensures c.in-Ok.size c.in-Ok.is c.args.own
+    c.requires.guest c.requires.own c.saturating_mul.result twice c.renew_all.new.token.me.0
+    (subst (HasSlots c.saturating_mul.result) (sym c.in-Ok-renew_all.ensures.anew)
+    c.shape_for-shape.ensures.slots)
+
+pub returns-in-Ok-renew_all-clause-called : goal.returns-in-Ok-renew_all-clause-called
+returns-in-Ok-renew_all-clause-called g c =
+    nothing-seen c.args.own c.args.token.now.me.0 c.renew_all.new.token.me.0 c.renew_all.ensures.guest.seen
+    c.requires.replayed
+
+pub returns-in-Err : goal.returns-in-Err
+returns-in-Err g c = record {
+  table = c.renew_all.ensures.table;
+  idle = record {
+    guest = c.renew_all.ensures.guest.guest ∙ c.requires.guest;
+    outs = c.renew_all.ensures.idle.outs;
+    slots = c.renew_all.ensures.idle.slots;
+  };
+  anew = tt;
+  called = nothing-seen c.args.own c.args.token.now.me.0 c.renew_all.new.token.me.0
+      c.renew_all.ensures.guest.seen c.requires.replayed;
+  kept = λ _. c.renew_all.ensures.guest.seen;
+  full = λ is. absurd cc;
+}

@@ -1,0 +1,101 @@
+use Rattle.std.proofs.Common.{◌≡◌, ◌∙◌, ◌<◌, ◌≤◌, [], Err, ap, arith, subst, sym}
+use Rattle.nb_core.specs.Log.{log_of}
+use Rattle.nb_core.specs.declared.calls.Call.TheVariants.{Write}
+use Rattle.nb_map.specs.declared.faults.PutFault.TheVariants as put_fault
+use Rattle.nb_lasting.specs.Holding.{HasTriedIn}
+use Rattle.nb_lasting.specs.Lasting.{as_write_fault}
+use Rattle.nb_lasting.specs.Renewal.{HoldsStill}
+use Rattle.nb_lasting.specs.Shared.{known_of}
+use Rattle.nb_lasting.proofs.Counted.{called-from}
+use Rattle.nb_lasting.proofs.Written.{full-crowded, full-still, is-err, refused-so, tried-so, wrote-home, wrote-since}
+use Rattle.nb_lasting.proofs.renewing.write_or_renew.Goals as goal
+
+pub renew_counted-requires-clause-holds : goal.renew_counted-requires-clause-holds
+renew_counted-requires-clause-holds g c =
+    let n = c.slot_count.result in
+    let me = c.gather_all.new.token.me in
+    let before = c.in-Ok.handles.items in
+    let after = c.write_by-reply.new.handles.items in
+    let call = Write c.args.key c.args.want.now c.args.change.now in
+    let result = c.write_by-reply.result in
+    let holds = c.in-Ok.ensures.holds in
+    let some : 1 ≤ c.slot_count.result =
+    omega (arith, c.slot_count.ensures, c.args.hall.now.slots, c.args.hall.now.some) in
+    let guest = c.gather_all.ensures.guest.guest ∙ c.requires.idle.guest in
+    let below : c.args.own < c.slot_count.result =
+    omega (arith, c.slot_count.ensures, c.args.hall.now.slots, c.requires.own) in
+    let wrote = c.write_by-reply.ensures in
+    let full : c.write_by-reply.result ≡ Err put_fault.Full =
+    c.found_full.ensures.0 c.if-found_full.true in
+    subst (λ k. HoldsStill k me after) (c.slot_count.ensures ∙ c.args.hall.now.slots)
+    (full-still n c.args.own me before after call result holds some guest below wrote full)
+
+pub returns-in_err-renew_counted-clause-tried : goal.returns-in_err-renew_counted-clause-tried
+returns-in_err-renew_counted-clause-tried g c =
+    let n = c.slot_count.result in
+    let me = c.gather_all.new.token.me in
+    let before = c.in-Ok.handles.items in
+    let after = c.write_by-reply.new.handles.items in
+    let call = Write c.args.key c.args.want.now c.args.change.now in
+    let result = c.write_by-reply.result in
+    let holds = c.in-Ok.ensures.holds in
+    let some : 1 ≤ c.slot_count.result =
+    omega (arith, c.slot_count.ensures, c.args.hall.now.slots, c.args.hall.now.some) in
+    let guest = c.gather_all.ensures.guest.guest ∙ c.requires.idle.guest in
+    let below : c.args.own < c.slot_count.result =
+    omega (arith, c.slot_count.ensures, c.args.hall.now.slots, c.requires.own) in
+    let wrote = c.write_by-reply.ensures in
+    let full : c.write_by-reply.result ≡ Err put_fault.Full =
+    c.found_full.ensures.0 c.if-found_full.true in
+    let old = c.args.token.now.me.0 in
+    let then = c.renew_counted.new.token.me.0 in
+    let seen = c.gather_all.ensures.guest.seen in
+    let fault = c.in_err-renew_counted.field-0.0 in
+    let tried = refused-so c.args.own old then call after fault
+    (called-from c.args.own old me.0 then [] seen c.renew_counted.ensures.called) c.requires.new_key
+    (full-crowded n c.args.own me before after call result holds some guest below wrote full)
+    (λ is. c.renew_counted.ensures.kept (c.in_err-renew_counted.was ∙ ap Err is) ∙ seen)
+    (λ is. c.renew_counted.ensures.full (c.in_err-renew_counted.was ∙ ap Err is)) in
+    subst (HasTriedIn c.args.own old then call)
+    (sym (is-err c.from_residual.result (as_write_fault fault) c.from_residual.ensures.1)) tried
+
+pub all_home-requires-clause-holds : goal.all_home-requires-clause-holds
+all_home-requires-clause-holds g c =
+    let n = c.slot_count.result in
+    let me = c.gather_all.new.token.me in
+    let before = c.in-Ok.handles.items in
+    let after = c.write_by-reply.new.handles.items in
+    let call = Write c.args.key c.args.want.now c.args.change.now in
+    let result = c.write_by-reply.result in
+    let holds = c.in-Ok.ensures.holds in
+    let some : 1 ≤ c.slot_count.result =
+    omega (arith, c.slot_count.ensures, c.args.hall.now.slots, c.args.hall.now.some) in
+    let guest = c.gather_all.ensures.guest.guest ∙ c.requires.idle.guest in
+    let below : c.args.own < c.slot_count.result =
+    omega (arith, c.slot_count.ensures, c.args.hall.now.slots, c.requires.own) in
+    let wrote = c.write_by-reply.ensures in (
+      log_of (known_of me.0.filled me.0.past wrote.new.seat),
+      wrote-home n c.args.own me before after call result holds some guest below wrote,
+    )
+
+pub returns-clause-tried : goal.returns-clause-tried
+returns-clause-tried g c =
+    let n = c.slot_count.result in
+    let me = c.gather_all.new.token.me in
+    let before = c.in-Ok.handles.items in
+    let after = c.write_by-reply.new.handles.items in
+    let call = Write c.args.key c.args.want.now c.args.change.now in
+    let result = c.write_by-reply.result in
+    let holds = c.in-Ok.ensures.holds in
+    let some : 1 ≤ c.slot_count.result =
+    omega (arith, c.slot_count.ensures, c.args.hall.now.slots, c.args.hall.now.some) in
+    let guest = c.gather_all.ensures.guest.guest ∙ c.requires.idle.guest in
+    let below : c.args.own < c.slot_count.result =
+    omega (arith, c.slot_count.ensures, c.args.hall.now.slots, c.requires.own) in
+    let wrote = c.write_by-reply.ensures in
+    subst (HasTriedIn c.args.own c.args.token.now.me.0 c.all_home.new.token.me.0 call)
+    (sym c.tried.ensures)
+    (tried-so c.args.own c.args.token.now.me.0 c.all_home.new.token.me.0 call result
+    (wrote-since n c.args.own me before after call result holds some guest below wrote
+    c.args.token.now.me.0 c.gather_all.ensures.guest.seen c.all_home.new.token.me.0
+    c.all_home.ensures.seen))
