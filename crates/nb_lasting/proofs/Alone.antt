@@ -1,20 +1,19 @@
 -- A handle that has the only seat of its map.
-use Rattle.std.proofs.Common.{◌≡◌, ◌≢◌, ◌∙◌, ◌==◌, ◌<◌, ◌≤◌, ◌+◌, ◌-◌, ◌&&◌, ◌^◌, ◌⊎◌, drop, ℕ, zero, suc, Bool, true, false, not, cond, eqb, List, [], ◌∷◌, ◌++◌, length, map, filter, take, ap, ap₂, refl, sym, subst, inl, inr, arith}
+use Rattle.std.proofs.Common.{◌≡◌, ◌∙◌, ◌==◌, ◌<◌, ◌≤◌, ◌+◌, ◌-◌, ◌&&◌, ◌^◌, drop, ℕ, zero, suc, Bool, true, false, not, cond, eqb, List, [], ◌∷◌, ◌++◌, length, map, filter, take, ap, ap₂, refl, sym, subst, inl, inr, arith}
 use Rattle.std.specs.FinMap as numbers
-use Rattle.std.specs.FinMap.{get}
 use Rattle.std.specs.List.{All, AllZip, count_by, range_with_len}
-use Rattle.std.specs.Prelude.{Err, IfErr, IfOk, None, Ok, OnErr, Option, Result, ⊤}
+use Rattle.std.specs.Prelude.{Err, IfErr, IfOk, Ok, OnErr, Option, Result}
 use Rattle.std.specs.Set.{distinct_count, is_member, unique_keys}
 use Rattle.std.proofs.lemmas.Bool.{eq-eqb}
-use Rattle.std.proofs.lemmas.List.Elements.{All-append, All-cons, All-head, All-nil, All-tail, All-weaker}
+use Rattle.std.proofs.lemmas.List.Elements.{All-cons, All-head, All-nil, All-tail}
 use Rattle.std.proofs.lemmas.List.Sums.{sum_by-cons}
 use Rattle.nb_core.proofs.Theorems.{log_is_replayed}
 use Rattle.nb_core.specs.Calls.{overflows}
 use Rattle.nb_core.specs.History.{key_of_call}
 use Rattle.nb_core.specs.Laws.{HasLog}
-use Rattle.nb_core.specs.Log.{Entry, Numbers, calls_of, log_of, map_of_log, reply_at}
+use Rattle.nb_core.specs.Log.{Entry, calls_of, log_of, map_of_log, reply_at}
 use Rattle.nb_core.specs.Meaning.{IsCrowded, is_win_of_another}
-use Rattle.nb_core.specs.Plans.{IsPlan, Plan}
+use Rattle.nb_core.specs.Plans.{Plan}
 use Rattle.nb_core.specs.declared.calls.Call.TheVariants.{Get}
 use Rattle.nb_core.specs.declared.calls.Call.{Call}
 use Rattle.nb_core.specs.declared.calls.Reply.{Reply}
@@ -29,14 +28,14 @@ use Rattle.nb_map.specs.Entries.{AreEntriesOf, HaveListed, HaveOnlyRead, IsRead}
 use Rattle.nb_map.specs.Handles.{HandleOf, IsSameMap, IsWhole, KeepsRest, seats_of}
 use Rattle.nb_map.specs.Logs.{HasLogged, log}
 use Rattle.nb_map.specs.Maps.{HasWorked, IsMine, MapOf, SeatOf, new_seats}
-use Rattle.nb_map.specs.OneSeat.{IsOnly, entry_of_first, held}
+use Rattle.nb_map.specs.OneSeat.{IsOnly, entry_of_first}
 use Rattle.nb_map.specs.Progress.{Tries, passed_since}
 use Rattle.nb_map.specs.Promises.{HasGot, HasWritten, replied_or_refused}
 use Rattle.nb_map.specs.Renewing.{HasRenewed, HasTooMany, IsKept}
 use Rattle.nb_map.specs.Settling.{HasCaughtUp, HaveSettled}
 use Rattle.nb_map.specs.declared.faults.PutFault.{PutFault}
 use Rattle.nb_map.specs.declared.faults.PutFault.TheVariants as fault
-use Rattle.nb_lasting.specs.Lasting.{Finds, IsMadeOn, IsNewKey}
+use Rattle.nb_lasting.specs.Lasting.{Finds, IsMadeOn}
 use Rattle.nb_lasting.specs.inside.Present.{HasSlots, IsAlone, IsFresh, IsRefusedHere, content, keys_in, last_size}
 
 -- ---- entries of the first seat

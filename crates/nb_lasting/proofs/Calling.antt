@@ -1,5 +1,5 @@
 -- What a guest's call does to what it knows.
-use Rattle.std.proofs.Common.{◌≡◌, ◌∙◌, ◌++◌, ℕ, List, [], ◌∷◌, All, Some, ap, refl, subst, sym}
+use Rattle.std.proofs.Common.{◌≡◌, ◌∙◌, ◌++◌, ℕ, List, [], ◌∷◌, Some, ap, subst, sym}
 use Rattle.std.specs.FinMap as numbers
 use Rattle.std.specs.Prelude.{Err, None, Ok, Option, Result, unwrap_or}
 use Rattle.std.proofs.lemmas.List.{append_assoc}
@@ -7,7 +7,7 @@ use Rattle.atomic_table.specs.Table.{Me, rest}
 use Rattle.nb_core.proofs.Theorems.{crowded_absent, log_is_replayed}
 use Rattle.nb_core.specs.Calls.{overflows}
 use Rattle.nb_core.specs.History.{IsLegal, key_of_call}
-use Rattle.nb_core.specs.Log.{Entry, IsReplayed, calls_of, log_of, map_of_log}
+use Rattle.nb_core.specs.Log.{Entry, IsReplayed, log_of, map_of_log}
 use Rattle.nb_core.specs.Meaning.{IsCrowded}
 use Rattle.nb_core.specs.Plans.{IsPlan, Plan}
 use Rattle.nb_core.specs.declared.calls.Call.{Call}
@@ -25,7 +25,7 @@ use Rattle.nb_lasting.proofs.Epochs.{goes_on, leaves, replays}
 use Rattle.nb_lasting.proofs.Sharing.{known-of, log-as-events}
 use Rattle.nb_lasting.specs.Epochs.{HasGoneOnBy}
 use Rattle.nb_lasting.specs.Holding.{CanGive, HasCalledIn, HasWrittenIn, IsIdleGuest, IsJustIn}
-use Rattle.nb_lasting.specs.Shared.{EpochIn, HasGiven, HasTaken, Holds, IsLane, KnowsIn, as_events, known_in, known_of, rest_outs}
+use Rattle.nb_lasting.specs.Shared.{EpochIn, HasGiven, HasTaken, KnowsIn, as_events, known_in, known_of, rest_outs}
 use Rattle.nb_lasting.specs.declared.shared.LaneView.{LaneView}
 
 -- what a handle knows after its calls

@@ -1,14 +1,14 @@
 -- All lanes are gathered, and the map is closed.
-use Rattle.std.proofs.Common.{◌≡◌, ◌≢◌, ◌∙◌, ◌+◌, ◌++◌, ◌<◌, ◌≤◌, ◌⊎◌, ℕ, suc, List, [], ◌∷◌, All, Some, ap, inl, inr, length, length-append, refl, slice_get, subst, sym, arith}
-use Rattle.std.specs.Prelude.{None, Option}
+use Rattle.std.proofs.Common.{◌≡◌, ◌∙◌, ◌++◌, ◌≤◌, ◌⊎◌, ℕ, List, [], ◌∷◌, All, Some, ap, inl, inr, length, length-append, refl, slice_get, subst, sym, arith}
+use Rattle.std.specs.Prelude.{Option}
 use Rattle.std.proofs.lemmas.List.{append-nil, append_assoc}
 use Rattle.std.proofs.lemmas.Option.{slice_get_within}
 use Rattle.atomic_table.specs.Table.{Me, rest}
-use Rattle.nb_core.specs.Log.{Entry, IsReplayed, log_of, map_of_log}
+use Rattle.nb_core.specs.Log.{Entry, log_of}
 use Rattle.nb_core.specs.declared.events.Event.{Event}
-use Rattle.nb_map.specs.Ending.{EndedOf, EndedWith, map_left}
+use Rattle.nb_map.specs.Ending.{EndedOf, EndedWith}
 use Rattle.nb_map.specs.Handles.{HandleOf, seats_of}
-use Rattle.nb_map.specs.Maps.{MapOf, SeatOf}
+use Rattle.nb_map.specs.Maps.{MapOf}
 use Rattle.nb_lasting.proofs.Dealt.{snoc_cases, there_is}
 use Rattle.nb_lasting.proofs.Epochs.{goes_on, one_log_for_all}
 use Rattle.nb_lasting.proofs.Renewed.{all-from, at-all, handle-at, length-each, logs-of, seat-at, whole-made}
@@ -17,7 +17,7 @@ use Rattle.nb_lasting.specs.Closing.{HasGathered, HaveComeTo, HaveGathered}
 use Rattle.nb_lasting.specs.Epochs.{HasGoneOnBy, HaveMetIn, IsOfEpoch, Knows}
 use Rattle.nb_lasting.specs.Gathered.{seats_of_each}
 use Rattle.nb_lasting.specs.Guests.{GoesOnTo, GuestOf, HaveEnded}
-use Rattle.nb_lasting.specs.Renewal.{AreHeld, HoldsBelow, IsIdleToken}
+use Rattle.nb_lasting.specs.Renewal.{AreHeld, HoldsBelow}
 use Rattle.nb_lasting.specs.Shared.{IsOfGuest, FitsLanes}
 use Rattle.nb_lasting.specs.declared.shared.LaneView.{LaneView}
 

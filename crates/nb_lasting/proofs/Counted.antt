@@ -1,5 +1,5 @@
 -- A guest counts the map with all handles, and gives them back.
-use Rattle.std.proofs.Common.{◌≡◌, ◌≢◌, ◌∙◌, ◌++◌, ◌*◌, ◌<◌, ◌≤◌, ◌^◌, ℕ, List, [], All, Some, ap, length, refl, slice_get, subst, sym, arith}
+use Rattle.std.proofs.Common.{◌≡◌, ◌∙◌, ◌++◌, ◌*◌, ◌<◌, ◌≤◌, ◌^◌, ℕ, List, [], Some, ap, length, refl, subst, sym, arith}
 use Rattle.std.specs.FinMap as numbers
 use Rattle.std.specs.Prelude.{IfOk, Ok, Option, Result}
 use Rattle.atomic_table.specs.Table.{Me}
@@ -10,7 +10,6 @@ use Rattle.nb_core.specs.declared.calls.Call.{Call}
 use Rattle.nb_core.specs.declared.calls.Reply.{Reply}
 use Rattle.nb_core.specs.declared.events.Event.{Event}
 use Rattle.nb_core.specs.declared.shapes.TheConstants.{MAX_EXPONENT}
-use Rattle.nb_map.specs.Entries.{IsRead}
 use Rattle.nb_map.specs.Handles.{HandleOf}
 use Rattle.nb_map.specs.Maps.{MapOf}
 use Rattle.nb_map.specs.declared.faults.SettleFault.{SettleFault}
@@ -22,7 +21,6 @@ use Rattle.nb_lasting.specs.Epochs.{HasGoneOnBy}
 use Rattle.nb_lasting.specs.Gathered.{HaveTooMany, IsPartedCounted}
 use Rattle.nb_lasting.specs.Holding.{HasCalledIn, IsIdleGuest}
 use Rattle.nb_lasting.specs.Renewal.{AreHeld, AreStill, CanComeHome, HasRoomAnew, HoldsStill, IsFullAt, blanks, down}
-use Rattle.nb_lasting.specs.Shared.{IsCurrent}
 use Rattle.nb_lasting.specs.declared.shared.LaneView.{LaneView}
 use Rattle.nb_lasting.specs.inside.Present.{HasSlots}
 

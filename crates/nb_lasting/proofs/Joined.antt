@@ -1,7 +1,7 @@
 -- Handles with one seat each, made one.
-use Rattle.std.proofs.Common.{◌≡◌, ◌∙◌, ◌+◌, ◌++◌, ◌<◌, ◌≤◌, ◌^◌, ℕ, suc, List, [], ◌∷◌, All, ap, get_or, length, map, refl, subst, sym, true, arith}
+use Rattle.std.proofs.Common.{◌≡◌, ◌∙◌, ◌+◌, ◌++◌, ◌<◌, ◌≤◌, ◌^◌, suc, List, [], ◌∷◌, All, ap, get_or, length, refl, subst, sym, true, arith}
 use Rattle.std.specs.Prelude.{Err, Ok, Result, is_ok, remove}
-use Rattle.std.proofs.lemmas.List.Elements.{All-head, All-same, All-tail, All-weaker}
+use Rattle.std.proofs.lemmas.List.Elements.{All-head, All-tail, All-weaker}
 use Rattle.nb_map.specs.Handles.{HandleOf, all_seats, seats_of}
 use Rattle.nb_map.specs.Maps.{MapOf, SeatOf}
 use Rattle.nb_lasting.specs.Gathered.{AreSingle, IsSingle, seats_of_each}

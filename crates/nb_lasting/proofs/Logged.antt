@@ -1,9 +1,7 @@
 -- The calls of a map without an end are one log.
-use Rattle.std.proofs.Common.{◌≡◌, ◌∙◌, List, [], ◌∷◌, ap, sym}
-use Rattle.nb_core.specs.Log.{Entry, IsReplayed, Numbers, map_after, map_of_log, reply_of}
-use Rattle.nb_core.specs.declared.calls.Call.{Call}
-use Rattle.nb_core.specs.declared.calls.Reply.{Reply}
-use Rattle.nb_lasting.specs.Laws.{HaveBeenMade, OneLog, with_calls}
+use Rattle.std.proofs.Common.{◌∙◌, [], ◌∷◌, ap, sym}
+use Rattle.nb_core.specs.Log.{map_after, reply_of}
+use Rattle.nb_lasting.specs.Laws.{OneLog}
 
 pub one_log : OneLog
 one_log past after [] replayed same = (replayed, sym same)

@@ -1,7 +1,7 @@
 -- A token takes the place of another, which makes no call.
-use Rattle.std.proofs.Common.{◌≡◌, ◌≢◌, ◌∙◌, ◌<◌, ◌⊎◌, ℕ, List, [], Some, ap, inl, inr, length, refl, slice_set, subst, sym, arith}
+use Rattle.std.proofs.Common.{◌≡◌, ◌≢◌, ◌∙◌, ◌<◌, ◌⊎◌, ℕ, List, [], Some, ap, inl, inr, refl, slice_set, subst, sym}
 use Rattle.std.specs.Prelude.{None, Option}
-use mathlib.Core.Option.{none, some}
+use mathlib.Core.Option.{some}
 use lib.ListN.{get_elem?}
 use Rattle.atomic_table.proofs.Lists.{at_set, set_else}
 use Rattle.atomic_table.specs.Table.{Joins}

@@ -1,8 +1,8 @@
 -- What a renewal makes of the handles of all lanes, and a count.
-use Rattle.std.proofs.Common.{◌≡◌, ◌∙◌, ◌+◌, ◌++◌, ◌<◌, ◌≤◌, ◌^◌, ℕ, cond, zero, suc, List, [], ◌∷◌, All, Some, ap, inl, inr, length, map, refl, slice_get, subst, sym, arith}
+use Rattle.std.proofs.Common.{◌≡◌, ◌∙◌, ◌++◌, ◌<◌, ◌≤◌, ◌^◌, ℕ, cond, zero, suc, List, [], ◌∷◌, All, Some, ap, inl, inr, length, map, refl, slice_get, subst, sym, arith}
 use Rattle.std.specs.FinMap as numbers
 use Rattle.std.specs.List.{AllZip, range_with_len}
-use Rattle.std.specs.Prelude.{◌-◌, Err, IfErr, IfOk, None, Ok, Option, Result, ⊤, get_or, option_map, unwrap_or}
+use Rattle.std.specs.Prelude.{◌-◌, Err, IfOk, None, Ok, Option, Result, ⊤, get_or, option_map, unwrap_or}
 use Rattle.std.proofs.lemmas.Bool.{eq-eqb}
 use Rattle.std.proofs.lemmas.List.{append_cancel_right, length-map}
 use Rattle.std.proofs.lemmas.List.Elements.{All-append, All-cons, All-head, All-nil, All-tail}
@@ -34,9 +34,9 @@ use Rattle.nb_lasting.proofs.Calling.{crowded-away, known-then}
 use Rattle.nb_lasting.proofs.Epochs.{leaves, one_log_for_all}
 use Rattle.nb_lasting.proofs.Sharing.{log-as-events}
 use Rattle.nb_lasting.specs.Epochs.{AllKnow, EpochOf, HasGoneOnBy, HaveMetIn, IsOfEpoch, Knows}
-use Rattle.nb_lasting.specs.Gathered.{HaveTooMany, IsPartedCounted, AreSingle, IsPartedAnew, IsSingle, seats_of_each}
+use Rattle.nb_lasting.specs.Gathered.{HaveTooMany, IsPartedCounted, AreSingle, IsPartedAnew, seats_of_each}
 use Rattle.nb_lasting.specs.Renewal.{AreAnew, AreAsBefore, AreHeld, AreRenewed, AreStill}
-use Rattle.nb_lasting.specs.Shared.{EpochIn, IsCurrent, IsLane, IsOfGuest, KnowsIn, as_events, known_of}
+use Rattle.nb_lasting.specs.Shared.{EpochIn, IsLane, IsOfGuest, KnowsIn, as_events, known_of}
 use Rattle.nb_lasting.specs.inside.Present.{HasSlots}
 
 -- ---- lists by index

@@ -8,8 +8,8 @@ use Rattle.std.specs.Prelude.{◌-◌, None, Option, map, replicate, slice_get, 
 use Rattle.std.proofs.lemmas.Bool.Decides.{nat_tests}
 use Rattle.std.proofs.lemmas.List.{append_cancel_right, get_or-set_other, get_or-set_same, length-append, length-map, length-replicate, length-set, set-get_or}
 use Rattle.std.proofs.lemmas.List.Elements.{All-append, All-nil}
-use Rattle.atomic_table.proofs.Lists.{at_set, at_snoc, exchanged, set_again, set_else, set_here}
-use Rattle.atomic_table.specs.Table.{Act, Allows, Me, Splits, Step, Valid, carried_after, chain, gives, keeps, opening, rest, step, stepped, takes}
+use Rattle.atomic_table.proofs.Lists.{at_set, exchanged, set_again, set_else, set_here}
+use Rattle.atomic_table.specs.Table.{Act, Allows, Me, Splits, Valid, carried_after, gives, keeps, opening, rest, step, stepped, takes}
 use Rattle.nb_core.specs.Log.{Entry, IsReplayed, log_of}
 use Rattle.nb_core.specs.declared.events.Event.{Event}
 use Rattle.nb_core.specs.Plans.{Plan}

@@ -1,12 +1,12 @@
 -- How many slots a map has for its keys.
-use Rattle.std.proofs.Common.{◌≡◌, ◌+◌, ◌-◌, ◌/◌, ◌^◌, ◌<◌, ◌≤◌, ◌⊎◌, ℕ, inl, inr, arith}
+use Rattle.std.proofs.Common.{◌≡◌, ◌-◌, ◌^◌, ◌<◌, ◌≤◌, ◌⊎◌, ℕ, inl, inr, arith}
 use Rattle.std.specs.Prelude.{max, min}
 use Rattle.std.proofs.Math.Pow.{pow_mono}
 use Rattle.std.proofs.lemmas.Bool.{cases_lt}
 use Rattle.nb_core.specs.Plans.{HasRoomFor, Plan, generations_of}
 use Rattle.std.proofs.Common.{get_or}
 use Rattle.nb_core.specs.declared.shapes.TheConstants.{MOST_KEYS}
-use Rattle.nb_lasting.specs.inside.Present.{HasSlots, last_size}
+use Rattle.nb_lasting.specs.inside.Present.{HasSlots}
 
 -- a table with nearly as many slots as the greatest one is the greatest
 greatest : (e : ℕ) → 268435455 ≤ 2 ^ e → 2 ^ 28 ≤ 2 ^ e

@@ -9,8 +9,7 @@ use Rattle.std.proofs.lemmas.List.Elements.{All-cons, All-head, All-tail}
 use Rattle.nb_core.specs.Log.{Entry, IsReplayed, calls_of, log_of, map_after, map_of_log, reply_of}
 use Rattle.nb_core.specs.declared.calls.Call.{Call}
 use Rattle.nb_core.specs.declared.calls.Reply.{Reply}
-use Rattle.nb_core.specs.declared.events.Event.{Event}
-use Rattle.nb_map.specs.Ending.{EndedOf, map_left}
+use Rattle.nb_map.specs.Ending.{EndedOf}
 use Rattle.nb_map.specs.Entries.{IsRead}
 use Rattle.nb_lasting.proofs.Dealt.{there_is}
 use Rattle.nb_lasting.proofs.Epochs.{goes_on}
@@ -22,7 +21,7 @@ use Rattle.nb_lasting.specs.Lasting.{IsRefusedFor}
 use Rattle.nb_lasting.specs.declared.faults.WriteFault.{WriteFault}
 use Rattle.nb_map.specs.declared.faults.PutFault.{PutFault}
 use Rattle.nb_lasting.specs.Holding.{HasCalledIn, HasTriedIn, HasWrittenIn, IsJustIn}
-use Rattle.nb_lasting.specs.inside.Guests.{HasTried, HasWrittenHere}
+use Rattle.nb_lasting.specs.inside.Guests.{GuestHasTried, HasWrittenHere}
 use Rattle.nb_lasting.specs.declared.shared.LaneView.{LaneView}
 
 -- ---- calls and reads
@@ -98,7 +97,7 @@ pub tried-through :
     (call : Call) (before after : GuestOf) (old new : LaneView) (result : Result (Option Reply) WriteFault)
     → after.of ≡ before.of → after.number ≡ before.number → before.log ≡ log_of old.seen
     → after.log ≡ log_of new.seen → HasTriedIn before.number old new call result
-    → HasTried call before after result
+    → GuestHasTried call before after result
 tried-through call before after old new (Ok None) of number is-old is-new called =
     called_through before after old new [] of number is-old is-new called
 tried-through call before after old new (Ok (Some reply)) of number is-old is-new called =
@@ -145,8 +144,8 @@ then-refused call first middle last fault one two =
 
 pub then-tried :
     (call : Call) (first middle last : GuestOf) (result : Result (Option Reply) WriteFault)
-    → GuestHasCalled first middle [] → HasTried call middle last result
-    → HasTried call first last result
+    → GuestHasCalled first middle [] → GuestHasTried call middle last result
+    → GuestHasTried call first last result
 then-tried call first middle last (Ok None) one two = then-first first middle last [] one two
 then-tried call first middle last (Ok (Some reply)) one two =
     then-first first middle last ((call, reply) ∷ []) one two

@@ -1,15 +1,14 @@
 -- A guest writes by its own handle while it has all of them.
 use Rattle.std.proofs.Common.{◌≡◌, ◌≢◌, ◌∙◌, ◌++◌, ◌<◌, ◌≤◌, ◌⊎◌, ℕ, zero, suc, List, [], ◌∷◌, Some, ap, inl, inr, length, refl, slice_get, slice_set, subst, sym, arith}
-use Rattle.std.specs.Prelude.{Err, None, Ok, Option, Result, unwrap_or}
+use Rattle.std.specs.Prelude.{Err, Ok, Option, Result, unwrap_or}
 use Rattle.std.specs.Result.{IsErrAnd}
 use Rattle.std.proofs.lemmas.List.{length-set}
 use Rattle.std.proofs.lemmas.Option.{slice_get_within}
 use Rattle.atomic_table.specs.Table.{Me}
 use Rattle.nb_core.specs.Calls.{Fills}
 use Rattle.nb_core.specs.History.{key_of_call}
-use Rattle.nb_core.specs.Log.{Entry, Numbers, log_of, map_of_log}
+use Rattle.nb_core.specs.Log.{Entry, log_of, map_of_log}
 use Rattle.nb_core.specs.Meaning.{IsCrowded}
-use Rattle.nb_core.specs.Plans.{Plan}
 use Rattle.nb_core.specs.declared.calls.Call.{Call}
 use Rattle.nb_core.specs.declared.calls.Reply.{Reply}
 use Rattle.nb_core.specs.declared.events.Event.{Event}

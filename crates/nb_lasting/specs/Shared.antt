@@ -1,7 +1,7 @@
 -- Lanes that threads share: each guest has one, whose handle is at home in a slot of a table while
 -- the guest makes no call. Who makes the map anew takes all handles. This is the rule of that table,
 -- with the one log of all calls in it.
-use Rattle.std.specs.Prelude.{refl, zero, suc, slice_get, ◌≡◌, ◌≢◌, ◌==◌, ◌<◌, ◌+◌, ◌*◌, ◌≤◌, ◌-◌, ◌++◌, ◌⊎◌, take, ℕ, if◌then◌else◌, List, [], ◌∷◌, Option, Some, None, All, length, map, slice_index}
+use Rattle.std.specs.Prelude.{suc, ◌≡◌, ◌≢◌, ◌==◌, ◌<◌, ◌+◌, ◌*◌, ◌≤◌, ◌-◌, ◌++◌, ◌⊎◌, take, ℕ, if◌then◌else◌, List, [], ◌∷◌, Option, Some, None, All, length, map, slice_index}
 use mathlib.Core.Option as maths
 use mathlib.Core.Option.{none, some}
 use lib.ListN.{get_elem?}

@@ -2,13 +2,13 @@
 ghost use Rattle.std.specs.FinMap as numbers;
 ghost use Rattle.std.specs.Prelude.{IfErr, IfOk, [], length, ◌≡◌};
 ghost use Rattle.nb_core.specs.Calls.{Fills};
-ghost use Rattle.nb_core.specs.Log.{log_of, map_of_log, reply_at};
+ghost use Rattle.nb_core.specs.Log.{IsReplayed, log_of, map_of_log, reply_at};
 ghost use Rattle.nb_core.specs.declared.calls.Call.TheVariants as call;
 ghost use Rattle.nb_map.specs.NamedCalls.{add_of, put_if_absent_of, put_of, remove_if_of, remove_of, replace_if_of, replace_of};
 ghost use Rattle.nb_lasting.specs.Guests.{GuestHasCalled, GuestHasFound, GuestHasMatched, GuestHasReplied, GuestIsRefused};
 ghost use Rattle.nb_lasting.specs.Holding.{IsIdleGuest};
 ghost use Rattle.nb_lasting.specs.Lasting.{IsNewKey, as_write_fault};
-ghost use Rattle.nb_lasting.specs.inside.Guests.{HasTried, HasWrittenHere, NeverOverflows};
+ghost use Rattle.nb_lasting.specs.inside.Guests.{GuestHasTried, HasWrittenHere, NeverOverflows};
 
 use crate::counting::count_through;
 use crate::faults::{GrowFault, WriteFault};
@@ -57,6 +57,14 @@ impl Guest {
         self.lane
     }
 
+    /// Reminds a proof that the log that it knows is replayed: so a guest that makes no call has called
+    /// nothing. It does nothing.
+    pub fn known(&self)
+        ensures { IsReplayed self.now.log }
+    {
+        let _ = &self.token;
+    }
+
     /// Its token alone.
     pub(crate) fn into_token(self) -> Token
         ensures table { result.table_id ≡ self.of }
@@ -103,7 +111,7 @@ impl Guest {
         want: &Want,
         change: &Change,
     ) -> Result<Option<Reply>, WriteFault>
-        ensures { HasTried (call.Write key want.now change.now) self.old self.new result }
+        ensures { GuestHasTried (call.Write key want.now change.now) self.old self.new result }
     {
         match self.write_here(rt, key, want, change) {
             Ok(reply) => {
@@ -128,7 +136,7 @@ impl Guest {
         change: &Change,
     ) -> Result<Option<Reply>, WriteFault>
         requires new_key { IsNewKey (call.Write key want.now change.now) (map_of_log self.old.log) }
-        ensures { HasTried (call.Write key want.now change.now) self.old self.new result }
+        ensures { GuestHasTried (call.Write key want.now change.now) self.old self.new result }
     {
         write_or_renew(
             rt,

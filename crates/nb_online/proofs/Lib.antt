@@ -1,4 +1,2 @@
 -- Lemmas.
-pub mod CrewLemmas
-pub mod RoomLemmas
 pub mod WorkLemmas

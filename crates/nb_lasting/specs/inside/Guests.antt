@@ -1,6 +1,6 @@
 -- What is in a guest, and in a map that guests share, and what their private calls promise.
 use Rattle.std.specs.Arc.{arc_value}
-use Rattle.std.specs.Prelude.{◌≡◌, ◌≢◌, ◌<◌, ◌≤◌, ◌∷◌, [], true, ℕ, Err, Ok, Option, None, Some, Result, vec_capacity}
+use Rattle.std.specs.Prelude.{◌≡◌, ◌≢◌, ◌<◌, ◌≤◌, [], true, Err, Ok, Option, None, Some, Result, vec_capacity}
 use Rattle.nb_core.specs.Calls.{overflows}
 use Rattle.nb_core.specs.Log.{IsReplayed, Numbers, log_of}
 use Rattle.nb_core.specs.declared.calls.Call.{Call}
@@ -45,11 +45,11 @@ pub record IsShared (c : shared.Inside) : Type 0 where
 -- ---- a round of a write
 
 -- it was made, or not yet, or is refused
-abbrev pub HasTried :
+abbrev pub GuestHasTried :
     Call → (before after : GuestOf) → Result (Option Reply) WriteFault → Type 0
-HasTried call before after (Ok None) = GuestHasCalled before after []
-HasTried call before after (Ok (Some reply)) = GuestHasReplied call before after reply
-HasTried call before after (Err fault) = GuestIsRefused call before after fault
+GuestHasTried call before after (Ok None) = GuestHasCalled before after []
+GuestHasTried call before after (Ok (Some reply)) = GuestHasReplied call before after reply
+GuestHasTried call before after (Err fault) = GuestIsRefused call before after fault
 
 -- it was made on the map that is there, or refused
 abbrev pub HasWrittenHere : Call → (before after : GuestOf) → Result Reply PutFault → Type 0

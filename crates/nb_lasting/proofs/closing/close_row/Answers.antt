@@ -1,4 +1,4 @@
-use Rattle.std.proofs.Common.{◌≡◌, ◌∙◌, ◌≤◌, ap, length, refl, subst, sym, arith}
+use Rattle.std.proofs.Common.{◌∙◌, ◌≤◌, length, refl, subst, sym}
 use Rattle.nb_lasting.specs.Shared.{FitsLanes}
 use Rattle.nb_lasting.proofs.Closed.{have-ended, whole-seats}
 use Rattle.nb_lasting.proofs.Dealt.{all-single, single-map}

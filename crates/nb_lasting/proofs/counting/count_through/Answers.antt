@@ -1,4 +1,4 @@
-use Rattle.std.proofs.Common.{◌≡◌, ◌∙◌, ◌<◌, ◌≤◌, ℕ, [], Some, ap, length, refl, subst, sym, arith}
+use Rattle.std.proofs.Common.{◌∙◌, ◌<◌, ◌≤◌, arith}
 use Rattle.nb_core.specs.Log.{log_of}
 use Rattle.nb_lasting.proofs.Counted.{called-home, can-come-home, size-home, still-by}
 use Rattle.nb_lasting.proofs.Dealt.{held-still, still-single}

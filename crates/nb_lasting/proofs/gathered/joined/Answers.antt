@@ -1,5 +1,4 @@
 use Rattle.std.proofs.Common.{◌≡◌, ◌∙◌, ◌∷◌, ap, sym}
-use Rattle.nb_map.specs.Handles.{HandleOf}
 use Rattle.nb_lasting.proofs.Joined.{few-seats, first-out, joined-seats, never-both}
 use Rattle.nb_lasting.proofs.gathered.joined.Goals as goal
 

@@ -1,4 +1,4 @@
-use Rattle.std.proofs.Common.{◌∙◌, Some, ap, length, subst, sym, arith}
+use Rattle.std.proofs.Common.{Some, ap, length, arith}
 use Rattle.std.proofs.lemmas.List.{length-map}
 use Rattle.nb_core.proofs.Seating.{moved-count}
 use Rattle.nb_lasting.proofs.opening.housed.Goals as goal

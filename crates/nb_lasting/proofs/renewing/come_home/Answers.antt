@@ -1,6 +1,4 @@
-use Rattle.std.proofs.Common.{◌≡◌, ◌≢◌, ◌∙◌, ◌∷◌, Some, ap, sym, true, false}
 use Rattle.std.specs.Prelude.{None}
-use Rattle.std.proofs.lemmas.Bool.Decides.{nat_tests}
 use Rattle.nb_lasting.proofs.Dealt.{can-deal-else, can-give-own, come-else, come-own, slot_is}
 use Rattle.nb_lasting.proofs.renewing.come_home.Goals as goal
 

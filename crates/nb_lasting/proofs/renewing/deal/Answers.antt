@@ -1,4 +1,3 @@
-use Rattle.std.proofs.Common.{◌≡◌, ◌∙◌, ◌++◌, ◌∷◌, [], ◌+◌, Some, ap, subst, sym, arith}
 use Rattle.std.specs.Prelude.{None}
 use Rattle.nb_lasting.proofs.Dealt.{can-deal, dealt, slot_is}
 use Rattle.nb_lasting.proofs.renewing.deal.Goals as goal

@@ -1,4 +1,3 @@
-use Rattle.std.proofs.Common.{◌≡◌, ◌∙◌, ◌++◌, ◌∷◌, [], ◌+◌, Some, ap, subst, sym, arith}
 use Rattle.std.specs.Prelude.{None}
 use Rattle.nb_lasting.proofs.Dealt.{begun, begun-map, can-renew, slot_is}
 use Rattle.nb_lasting.proofs.renewing.deal_anew.Goals as goal

@@ -1,4 +1,4 @@
-use Rattle.std.proofs.Common.{◌≡◌, ◌∙◌, ◌++◌, ◌∷◌, [], ◌+◌, Some, ap, subst, sym, arith}
+use Rattle.std.proofs.Common.{◌∙◌, ◌∷◌, ◌+◌, Some, ap, subst, sym}
 use Rattle.atomic_table.specs.Table.{rest}
 use Rattle.nb_lasting.specs.Renewal.{HoldsBelow}
 use Rattle.nb_lasting.proofs.Calling.{slot-rest}

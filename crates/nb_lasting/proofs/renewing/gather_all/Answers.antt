@@ -1,4 +1,4 @@
-use Rattle.std.proofs.Common.{◌≤◌, ap, length, refl, arith}
+use Rattle.std.proofs.Common.{ap, length, refl, arith}
 use Rattle.nb_lasting.proofs.Dealt.{holds-none}
 use Rattle.nb_lasting.proofs.renewing.gather_all.Goals as goal
 

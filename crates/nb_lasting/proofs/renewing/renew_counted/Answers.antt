@@ -1,5 +1,4 @@
-use Rattle.std.proofs.Common.{◌≡◌, ◌∙◌, ◌*◌, ◌<◌, ◌≤◌, ◌^◌, ℕ, [], Err, ap, arith, refl, subst, sym}
-use Rattle.std.proofs.lemmas.Bool.Decides.{nat_tests}
+use Rattle.std.proofs.Common.{◌≡◌, ◌∙◌, ◌*◌, ◌<◌, ◌≤◌, ◌^◌, Err, ap, arith, refl, subst, sym}
 use Rattle.nb_core.specs.Log.{log_of}
 use Rattle.nb_lasting.specs.Renewal.{HoldsStill}
 use Rattle.nb_lasting.specs.inside.Present.{HasSlots}

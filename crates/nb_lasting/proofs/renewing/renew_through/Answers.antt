@@ -1,6 +1,5 @@
-use Rattle.std.proofs.Common.{◌≡◌, ◌∙◌, ◌≤◌, subst, sym, arith}
+use Rattle.std.proofs.Common.{◌∙◌, subst}
 use Rattle.nb_lasting.specs.Renewal.{HoldsStill}
-use Rattle.nb_lasting.specs.Shared.{FitsLanes}
 use Rattle.nb_lasting.proofs.Dealt.{as-held, held-still}
 use Rattle.nb_lasting.proofs.renewing.renew_through.Goals as goal
 

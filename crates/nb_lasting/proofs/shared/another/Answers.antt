@@ -1,4 +1,4 @@
-use Rattle.std.proofs.Common.{◌≡◌, ◌<◌, arith}
+use Rattle.std.proofs.Common.{arith}
 use Rattle.nb_lasting.proofs.Sharing.{forks}
 use Rattle.nb_lasting.proofs.shared.another.Goals as goal
 

@@ -1,4 +1,4 @@
-use Rattle.std.proofs.Common.{◌≡◌, ◌<◌, arith}
+use Rattle.std.proofs.Common.{arith}
 use Rattle.nb_lasting.proofs.Merging.{merges}
 use Rattle.nb_lasting.proofs.shared.become_guest.Goals as goal
 

@@ -1,4 +1,4 @@
-use Rattle.std.proofs.Common.{◌≡◌, ◌<◌, arith}
+use Rattle.std.proofs.Common.{arith}
 use Rattle.nb_lasting.proofs.Sharing.{anew_allowed}
 use Rattle.nb_lasting.proofs.shared.give_anew.Goals as goal
 

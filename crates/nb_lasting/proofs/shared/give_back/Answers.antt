@@ -1,4 +1,4 @@
-use Rattle.std.proofs.Common.{◌≡◌, ◌<◌, arith}
+use Rattle.std.proofs.Common.{arith}
 use Rattle.nb_lasting.proofs.Sharing.{deal_allowed}
 use Rattle.nb_lasting.proofs.shared.give_back.Goals as goal
 

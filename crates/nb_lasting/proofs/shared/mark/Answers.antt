@@ -1,4 +1,4 @@
-use Rattle.std.proofs.Common.{◌≡◌, ◌<◌, arith}
+use Rattle.std.proofs.Common.{arith}
 use Rattle.nb_lasting.proofs.Sharing.{mark_allowed}
 use Rattle.nb_lasting.proofs.shared.mark.Goals as goal
 

@@ -1,4 +1,4 @@
-use Rattle.std.proofs.Common.{◌≡◌, ◌≤◌, [], All, Some, length, vec_capacity}
+use Rattle.std.proofs.Common.{◌≡◌, ◌≤◌, [], All, Some, vec_capacity}
 use Rattle.std.specs.Arc.{arc_value}
 use Rattle.nb_lasting.specs.Closing.{AreNew}
 use Rattle.nb_lasting.proofs.shared_lasting.invited.Given as goal

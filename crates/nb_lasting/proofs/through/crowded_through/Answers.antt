@@ -1,4 +1,4 @@
-use Rattle.std.proofs.Common.{◌≡◌, ◌∙◌, [], ◌∷◌, Some, true, refl, subst, sym}
+use Rattle.std.proofs.Common.{◌∙◌, [], Some, refl, subst, sym}
 use Rattle.nb_map.specs.Handles.{KeepsRest}
 use Rattle.nb_map.specs.Logs.{HasLogged}
 use Rattle.nb_lasting.proofs.Calling.{can-give, has-called, idle-again, slot-rest, taken-is}

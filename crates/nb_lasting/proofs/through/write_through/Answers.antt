@@ -1,4 +1,4 @@
-use Rattle.std.proofs.Common.{◌≡◌, ◌∙◌, [], ◌∷◌, Some, true, refl, subst, sym}
+use Rattle.std.proofs.Common.{◌∙◌, Some, refl, subst, sym}
 use Rattle.nb_map.specs.Handles.{KeepsRest}
 use Rattle.nb_map.specs.Logs.{HasLogged, made_in}
 use Rattle.nb_core.specs.declared.calls.Call.TheVariants.{Write}

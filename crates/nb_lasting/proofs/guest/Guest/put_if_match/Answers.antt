@@ -1,7 +1,7 @@
-use Rattle.std.proofs.Common.{◌≡◌, ◌∷◌, [], Ok, subst}
+use Rattle.std.proofs.Common.{◌∷◌, [], Ok, subst}
 use Rattle.nb_core.specs.declared.calls.Call.TheVariants.{Write}
 use Rattle.nb_lasting.specs.Guests.{GuestIsRefused}
-use Rattle.nb_lasting.specs.inside.Guests.{HasTried}
+use Rattle.nb_lasting.specs.inside.Guests.{GuestHasTried}
 use Rattle.nb_lasting.proofs.Visiting.{if-err, then-first, then-refused}
 use Rattle.nb_lasting.proofs.guest.Guest.put_if_match.Goals as goal
 
@@ -18,7 +18,7 @@ returns-in-Some-2-clause-wrote g c =
     let call = Write c.args.key c.args.want c.args.change in
     then-first c.args.self.now c.loop.self c.try_write.new.self ((call, c.in-Some-2.reply) ∷ [])
     c.loop.invariant.2
-    (subst (λ reply. HasTried call c.loop.self c.try_write.new.self (Ok reply)) c.in-Some-2.is
+    (subst (λ reply. GuestHasTried call c.loop.self c.try_write.new.self (Ok reply)) c.in-Some-2.is
     c.in_ok-reply.ensures)
 
 pub loop-preserved : goal.loop-preserved
@@ -27,6 +27,6 @@ loop-preserved g c =
       tt,
       tt,
       then-first c.args.self.now c.loop.self c.try_write.new.self [] c.loop.invariant.2
-          (subst (λ reply. HasTried call c.loop.self c.try_write.new.self (Ok reply)) c.in_default.is
+          (subst (λ reply. GuestHasTried call c.loop.self c.try_write.new.self (Ok reply)) c.in_default.is
           c.in_ok-reply.ensures),
     )

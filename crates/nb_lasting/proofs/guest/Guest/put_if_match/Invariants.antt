@@ -1,4 +1,4 @@
-use Rattle.std.proofs.Common.{◌≡◌, []}
+use Rattle.std.proofs.Common.{[]}
 use Rattle.nb_lasting.specs.Guests.{GuestHasCalled}
 use Rattle.nb_lasting.proofs.guest.Guest.put_if_match.Given as goal
 

@@ -1,4 +1,4 @@
-use Rattle.std.proofs.Common.{◌≡◌, [], subst}
+use Rattle.std.proofs.Common.{[], subst}
 use Rattle.nb_core.specs.Log.{IsReplayed}
 use Rattle.nb_lasting.specs.Guests.{GuestHasCalled, GuestOf}
 use Rattle.nb_lasting.proofs.Visiting.{none-called, then-first}

@@ -1,4 +1,4 @@
-use Rattle.std.proofs.Common.{◌≡◌, ◌∷◌, [], refl, subst}
+use Rattle.std.proofs.Common.{[], refl, subst}
 use Rattle.nb_core.specs.Log.{log_of}
 use Rattle.nb_lasting.specs.Guests.{GuestHasCalled, GuestOf}
 use Rattle.nb_lasting.specs.inside.Guests.{guest_of}

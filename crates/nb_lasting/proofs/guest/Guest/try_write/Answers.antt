@@ -1,4 +1,3 @@
-use Rattle.std.proofs.Common.{◌≡◌}
 use Rattle.nb_core.specs.declared.calls.Call.TheVariants.{Write}
 use Rattle.nb_lasting.proofs.Visiting.{then-tried}
 use Rattle.nb_lasting.proofs.guest.Guest.try_write.Goals as goal

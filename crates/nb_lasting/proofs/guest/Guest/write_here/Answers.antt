@@ -1,8 +1,8 @@
-use Rattle.std.proofs.Common.{◌≡◌, ◌∷◌, [], refl, subst}
+use Rattle.std.proofs.Common.{refl, subst}
 use Rattle.nb_core.specs.declared.calls.Call.TheVariants.{Write}
 use Rattle.nb_lasting.specs.inside.Guests.{HasWrittenHere}
 use Rattle.nb_core.specs.Log.{log_of}
-use Rattle.nb_lasting.specs.Guests.{GuestHasCalled, GuestOf}
+use Rattle.nb_lasting.specs.Guests.{GuestOf}
 use Rattle.nb_lasting.specs.inside.Guests.{guest_of}
 use Rattle.nb_lasting.proofs.Visiting.{written-through}
 use Rattle.nb_lasting.proofs.guest.Guest.write_here.Goals as goal

@@ -1,5 +1,3 @@
-use Rattle.std.proofs.Common.{arith, ◌<◌, ◌≤◌, inl, inr}
-use Rattle.nb_lasting.specs.inside.Present.{HasSlots, keys_in}
 use Rattle.nb_lasting.proofs.Alone.{has-room, kept-alone, renewed-alone, too-many}
 use Rattle.nb_lasting.proofs.present.Present.renew_for.Goals as goal
 
