@@ -22,7 +22,7 @@ void free_core(const samvolip_map *map, core *one)
 }
 
 /* A core to come, with a seat for each lane; or why there is none: memory is refused, by the system or since the options allow no more
-   slots beside all others that there are. What was made of it is to be dropped then. */
+   slots beside all others that there are. What was made of it goes by leave_cores then, too. */
 static int new_core(samvolip_map *map, uint32_t exponent, core **made)
 {
     samvolip_shape shape = {{exponent}, 1, map->count + 1, map->count < 16 ? map->count : 16, 18, 256};
