@@ -86,8 +86,8 @@ typedef struct samvolip_map_options {
     uint64_t room;    /* for how many keys there is room at first, and at least: 1000 */
     uint64_t memory;  /* how many bytes the tables take at most, with the new ones of renewals: any */
     uint32_t growth;  /* a renewal makes room for so many times the keys that there are, 2 to 64: 4;
-                         it makes twice as much from 1,000 to 8,000 keys, and where the map comes to
-                         be in parts, unless it is by hand */
+                         it makes twice as much from 2,000 keys on, until the map is in parts, but
+                         not by hand */
     uint32_t threads; /* how many threads have a seat of their own, up to 240: 64 */
     uint32_t keys;    /* an enum samvolip_keys */
 } samvolip_map_options;

@@ -2,7 +2,7 @@
    the whole map had one. */
 #include "endless.h"
 
-enum { LEAST_LEFT = 16 };
+enum { LEAST_LEFT = 16, FAST_FROM = 2000 };
 
 /* Why a part is renewed, if it is: it is two thirds full, or far too large; or it has few slots left, or none, or somebody asks for it. */
 enum why { NOT_YET, CROWDED, SPARSE, TIGHT, FULL, ASKED };
@@ -22,7 +22,7 @@ void free_core(const samvolip_map *map, core *one)
 }
 
 /* A core to come, with a seat for each lane; or why there is none: memory is refused, by the system or since the options allow no more
-   slots beside all others that there are. What was made of it is to be dropped then. */
+   slots beside all others that there are. What was made of it goes by leave_cores then, too. */
 static int new_core(samvolip_map *map, uint32_t exponent, core **made)
 {
     samvolip_shape shape = {{exponent}, 1, map->count + 1, map->count < 16 ? map->count : 16, 18, 256};
@@ -90,16 +90,15 @@ typedef struct size {
 } size;
 
 /* Alone with these parts: how large they should be, with `asked` for so many keys if these are asked for. It is time when there are about
-   2/3 as many keys as slots: by 5/4, and not 3/2, 4 times as many don't become 8 times by rounding. A small map, and one that comes to be
-   in parts, grows twice as fast, so that renewals come less often. */
+   2/3 as many keys as slots: by 5/4, and not 3/2, 4 times as many don't become 8 times by rounding. From FAST_FROM keys on, and until it is
+   in parts, a map grows twice as fast, so that renewals come less often. */
 static size size_for(const samvolip_map *map, range places, enum why why, uint64_t asked)
 {
     uint64_t keys = keys_in(map, places), room = room_in(map, places), grown = keys * map->options.growth * 5 / 4;
-    bool is_fast = (keys >= 1000 && keys < 8000) || grown > slots_of(DIVIDED_FROM - 1);
     uint64_t least = why == FULL || why == ASKED ? keys + 1 : with_half(keys);
     if (why == ASKED)
         least = greater(least, with_half(asked ? asked : room));
-    else if (is_fast && !is_part(places))
+    else if (keys >= FAST_FROM && why != SPARSE && !is_part(places))
         grown *= 2;
     uint32_t best = exponent_of(greater(greater(least, with_half(greater(keys, room))), asked ? 0 : grown));
     return (size){exponent_of(least), best < MOST_EXPONENT ? best : MOST_EXPONENT};
