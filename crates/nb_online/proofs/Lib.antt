@@ -1,2 +1,4 @@
 -- Lemmas.
+pub mod CrewLemmas
+pub mod RoomLemmas
 pub mod WorkLemmas
