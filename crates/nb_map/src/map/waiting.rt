@@ -17,8 +17,8 @@ ghost use Rattle.nb_map.specs.inside.Waiting.{HasGoneOn, answer_of_added, answer
 use crate::faults::{AddFault, Full};
 use crate::map::answers::{Added, Gone};
 use crate::map::{Map, Seat};
-use crate::steps::pause::rest_if_lost;
-use crate::steps::write::Straight;
+use crate::steps::pause::spin;
+use crate::steps::slot::Straight;
 use nb_core::{Change, Key, Num, Want};
 use std::sync::Wait;
 
@@ -44,9 +44,16 @@ impl Map {
         ensures { HasWritten self.now (put_of key number) seat.old seat.new Unlimited
             (found_or_full result) }
     {
-        match self.write_straight(seat, key, Want::Any, Change::Put(number)) {
-            Some(reply) => Ok(reply.before),
-            None => self.put_general(rt, seat, key, number).answer(),
+        let mut left = 1;
+        match self.write_straight(seat, key, Want::Any, Change::Put(number), &mut left) {
+            Straight::Made(reply) => Ok(reply.before),
+            Straight::Overflow => unreachable!(),
+            Straight::GoesOn => {
+                if left == 0 {
+                    spin();
+                }
+                self.put_general(rt, seat, key, number).answer()
+            }
         }
     }
 
@@ -75,9 +82,16 @@ impl Map {
         ensures { HasWritten self.now (put_if_absent_of key number) seat.old seat.new Unlimited
             (found_or_full result) }
     {
-        match self.write_straight(seat, key, Want::Absent, Change::Put(number)) {
-            Some(reply) => Ok(reply.before),
-            None => self.put_if_absent_general(rt, seat, key, number).answer(),
+        let mut left = 1;
+        match self.write_straight(seat, key, Want::Absent, Change::Put(number), &mut left) {
+            Straight::Made(reply) => Ok(reply.before),
+            Straight::Overflow => unreachable!(),
+            Straight::GoesOn => {
+                if left == 0 {
+                    spin();
+                }
+                self.put_if_absent_general(rt, seat, key, number).answer()
+            }
         }
     }
 
@@ -99,9 +113,16 @@ impl Map {
         ensures { HasWritten self.now (replace_of key number) seat.old seat.new Unlimited
             (Found result) }
     {
-        match self.write_straight(seat, key, Want::Present, Change::Put(number)) {
-            Some(reply) => reply.before,
-            None => self.replace_general(rt, seat, key, number),
+        let mut left = 1;
+        match self.write_straight(seat, key, Want::Present, Change::Put(number), &mut left) {
+            Straight::Made(reply) => reply.before,
+            Straight::Overflow => unreachable!(),
+            Straight::GoesOn => {
+                if left == 0 {
+                    spin();
+                }
+                self.replace_general(rt, seat, key, number)
+            }
         }
     }
 
@@ -130,9 +151,16 @@ impl Map {
         ensures { HasWritten self.now (replace_if_of key old new) seat.old seat.new Unlimited
             (Matched result) }
     {
-        match self.write_straight(seat, key, Want::Equal(old), Change::Put(new)) {
-            Some(reply) => reply.matched,
-            None => self.replace_if_general(rt, seat, key, old, new),
+        let mut left = 1;
+        match self.write_straight(seat, key, Want::Equal(old), Change::Put(new), &mut left) {
+            Straight::Made(reply) => reply.matched,
+            Straight::Overflow => unreachable!(),
+            Straight::GoesOn => {
+                if left == 0 {
+                    spin();
+                }
+                self.replace_if_general(rt, seat, key, old, new)
+            }
         }
     }
 
@@ -162,9 +190,16 @@ impl Map {
         ensures { HasWritten self.now (remove_of key) seat.old seat.new Unlimited
             (Found result) }
     {
-        match self.write_straight(seat, key, Want::Any, Change::Remove) {
-            Some(reply) => reply.before,
-            None => self.remove_general(rt, seat, key),
+        let mut left = 1;
+        match self.write_straight(seat, key, Want::Any, Change::Remove, &mut left) {
+            Straight::Made(reply) => reply.before,
+            Straight::Overflow => unreachable!(),
+            Straight::GoesOn => {
+                if left == 0 {
+                    spin();
+                }
+                self.remove_general(rt, seat, key)
+            }
         }
     }
 
@@ -186,9 +221,16 @@ impl Map {
         ensures { HasWritten self.now (remove_if_of key number) seat.old seat.new Unlimited
             (Matched result) }
     {
-        match self.write_straight(seat, key, Want::Equal(number), Change::Remove) {
-            Some(reply) => reply.matched,
-            None => self.remove_if_general(rt, seat, key, number),
+        let mut left = 1;
+        match self.write_straight(seat, key, Want::Equal(number), Change::Remove, &mut left) {
+            Straight::Made(reply) => reply.matched,
+            Straight::Overflow => unreachable!(),
+            Straight::GoesOn => {
+                if left == 0 {
+                    spin();
+                }
+                self.remove_if_general(rt, seat, key, number)
+            }
         }
     }
 
@@ -219,11 +261,13 @@ impl Map {
             (found_or_refused (uncontended result)) }
     {
         let mut left = 1;
-        match self.try_straight(seat, key, Want::Any, Change::Add(number), &mut left) {
+        match self.write_straight(seat, key, Want::Any, Change::Add(number), &mut left) {
             Straight::Made(reply) => Ok(reply.before),
             Straight::Overflow => Err(AddFault::ValueRange),
             Straight::GoesOn => {
-                rest_if_lost(left);
+                if left == 0 {
+                    spin();
+                }
                 self.add_general(rt, seat, key, number).answer()
             }
         }

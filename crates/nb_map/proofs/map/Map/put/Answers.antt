@@ -1,5 +1,5 @@
 use Rattle.nb_map.proofs.Away.{gone_on}
 use Rattle.nb_map.proofs.map.Map.put.Goals as goal
 
-pub returns-in-None : goal.returns-in-None
-returns-in-None g c = gone_on c.in-None.ensures _ (rw c.answer.ensures c.put_general.ensures)
+pub returns-after-left-eq0 : goal.returns-after-left-eq0
+returns-after-left-eq0 g c = gone_on c.in-GoesOn.ensures.waits _ (rw c.answer.ensures c.put_general.ensures)
