@@ -23,7 +23,9 @@ use Rattle.nb_map.specs.Refusals.{AreAllTries, HasRefused, IsJust}
 use Rattle.nb_map.specs.Steps.{put_steps}
 use Rattle.nb_map.specs.declared.faults.PutFault.TheVariants.{ValueRange}
 use Rattle.nb_map.specs.declared.faults.PutFault.{PutFault}
-use Rattle.nb_map.specs.inside.Waiting.{HasBeenTold, HasClimbed, HasGoneOn, HasLookedInVain, HasYetToWrite, IsStopped, LeavesTries, general_steps}
+use Rattle.nb_map.specs.declared.steps.slot.Straight.TheVariants.{GoesOn, Made, Overflow}
+use Rattle.nb_map.specs.declared.steps.slot.Straight.{Straight}
+use Rattle.nb_map.specs.inside.Waiting.{CantOverflow, HasBeenTold, HasClimbed, HasGoneOn, HasGoneStraight, HasLookedInVain, HasYetToWrite, IsStopped, LeavesTries, general_steps}
 
 -- ---- what is left of the tries
 
@@ -216,3 +218,16 @@ module _ {map : MapOf} {call : Call} {before then : SeatOf} {limit left : Limit}
         short = short-both map.chain away.looked made;
         own = on.own;
       }
+
+-- ---- a write that puts no sum
+
+-- its straight way refuses it nothing: where it isn't made there, it has yet to be made
+pub goes_on :
+    (map : MapOf) (call : Call) (before after : SeatOf) (limit left : Limit) (told : Straight)
+    → CantOverflow call → HasGoneStraight map call before after limit left told
+    → ((reply : Reply) → told ≡ Made reply → ⊥) → HasYetToWrite map call before after limit left
+goes_on map call before after limit left (Made reply) sumless gone unmade =
+    absurd (unmade reply refl)
+goes_on map call before after limit left Overflow sumless gone unmade =
+    absurd (sumless _ gone.answered.just)
+goes_on map call before after limit left GoesOn sumless gone unmade = gone

@@ -92,11 +92,11 @@ impl Map {
             (found_or_refused result) }
     {
         let mut left = tries;
-        match self.write_straight(seat, key, Want::Any, Change::Put(number), &mut left) {
-            Straight::Made(reply) => Ok(reply.before),
-            Straight::Overflow => Err(PutFault::ValueRange),
-            Straight::GoesOn => self.try_put_general(seat, key, number, left).answer(),
+        let told = self.write_straight(seat, key, Want::Any, Change::Put(number), &mut left);
+        if let Straight::Made(reply) = told {
+            return Ok(reply.before);
         }
+        self.try_put_general(seat, key, number, left).answer()
     }
 
     /// Goes on with `try_put`.
@@ -126,13 +126,12 @@ impl Map {
             (found_or_refused result) }
     {
         let mut left = tries;
-        match self.write_straight(seat, key, Want::Absent, Change::Put(number), &mut left) {
-            Straight::Made(reply) => Ok(reply.before),
-            Straight::Overflow => Err(PutFault::ValueRange),
-            Straight::GoesOn => self
-                .try_put_if_absent_general(seat, key, number, left)
-                .answer(),
+        let told = self.write_straight(seat, key, Want::Absent, Change::Put(number), &mut left);
+        if let Straight::Made(reply) = told {
+            return Ok(reply.before);
         }
+        self.try_put_if_absent_general(seat, key, number, left)
+            .answer()
     }
 
     /// Goes on with `try_put_if_absent`.
@@ -190,11 +189,11 @@ impl Map {
             (found_or_refused result) }
     {
         let mut left = tries;
-        match self.write_straight(seat, key, Want::Any, Change::Remove, &mut left) {
-            Straight::Made(reply) => Ok(reply.before),
-            Straight::Overflow => Err(PutFault::ValueRange),
-            Straight::GoesOn => self.try_remove_general(seat, key, left).answer(),
+        let told = self.write_straight(seat, key, Want::Any, Change::Remove, &mut left);
+        if let Straight::Made(reply) = told {
+            return Ok(reply.before);
         }
+        self.try_remove_general(seat, key, left).answer()
     }
 
     /// Goes on with `try_remove`.

@@ -45,16 +45,14 @@ impl Map {
             (found_or_full result) }
     {
         let mut left = 1;
-        match self.write_straight(seat, key, Want::Any, Change::Put(number), &mut left) {
-            Straight::Made(reply) => Ok(reply.before),
-            Straight::Overflow => unreachable!(),
-            Straight::GoesOn => {
-                if left == 0 {
-                    spin();
-                }
-                self.put_general(rt, seat, key, number).answer()
-            }
+        let told = self.write_straight(seat, key, Want::Any, Change::Put(number), &mut left);
+        if let Straight::Made(reply) = told {
+            return Ok(reply.before);
         }
+        if left == 0 {
+            spin();
+        }
+        self.put_general(rt, seat, key, number).answer()
     }
 
     /// Goes on with `put`.
@@ -83,16 +81,14 @@ impl Map {
             (found_or_full result) }
     {
         let mut left = 1;
-        match self.write_straight(seat, key, Want::Absent, Change::Put(number), &mut left) {
-            Straight::Made(reply) => Ok(reply.before),
-            Straight::Overflow => unreachable!(),
-            Straight::GoesOn => {
-                if left == 0 {
-                    spin();
-                }
-                self.put_if_absent_general(rt, seat, key, number).answer()
-            }
+        let told = self.write_straight(seat, key, Want::Absent, Change::Put(number), &mut left);
+        if let Straight::Made(reply) = told {
+            return Ok(reply.before);
         }
+        if left == 0 {
+            spin();
+        }
+        self.put_if_absent_general(rt, seat, key, number).answer()
     }
 
     /// Goes on with `put_if_absent`.
@@ -114,16 +110,14 @@ impl Map {
             (Found result) }
     {
         let mut left = 1;
-        match self.write_straight(seat, key, Want::Present, Change::Put(number), &mut left) {
-            Straight::Made(reply) => reply.before,
-            Straight::Overflow => unreachable!(),
-            Straight::GoesOn => {
-                if left == 0 {
-                    spin();
-                }
-                self.replace_general(rt, seat, key, number)
-            }
+        let told = self.write_straight(seat, key, Want::Present, Change::Put(number), &mut left);
+        if let Straight::Made(reply) = told {
+            return reply.before;
         }
+        if left == 0 {
+            spin();
+        }
+        self.replace_general(rt, seat, key, number)
     }
 
     /// Goes on with `replace`.
@@ -152,16 +146,14 @@ impl Map {
             (Matched result) }
     {
         let mut left = 1;
-        match self.write_straight(seat, key, Want::Equal(old), Change::Put(new), &mut left) {
-            Straight::Made(reply) => reply.matched,
-            Straight::Overflow => unreachable!(),
-            Straight::GoesOn => {
-                if left == 0 {
-                    spin();
-                }
-                self.replace_if_general(rt, seat, key, old, new)
-            }
+        let told = self.write_straight(seat, key, Want::Equal(old), Change::Put(new), &mut left);
+        if let Straight::Made(reply) = told {
+            return reply.matched;
         }
+        if left == 0 {
+            spin();
+        }
+        self.replace_if_general(rt, seat, key, old, new)
     }
 
     /// Goes on with `replace_if`.
@@ -191,16 +183,14 @@ impl Map {
             (Found result) }
     {
         let mut left = 1;
-        match self.write_straight(seat, key, Want::Any, Change::Remove, &mut left) {
-            Straight::Made(reply) => reply.before,
-            Straight::Overflow => unreachable!(),
-            Straight::GoesOn => {
-                if left == 0 {
-                    spin();
-                }
-                self.remove_general(rt, seat, key)
-            }
+        let told = self.write_straight(seat, key, Want::Any, Change::Remove, &mut left);
+        if let Straight::Made(reply) = told {
+            return reply.before;
         }
+        if left == 0 {
+            spin();
+        }
+        self.remove_general(rt, seat, key)
     }
 
     /// Goes on with `remove`.
@@ -222,16 +212,14 @@ impl Map {
             (Matched result) }
     {
         let mut left = 1;
-        match self.write_straight(seat, key, Want::Equal(number), Change::Remove, &mut left) {
-            Straight::Made(reply) => reply.matched,
-            Straight::Overflow => unreachable!(),
-            Straight::GoesOn => {
-                if left == 0 {
-                    spin();
-                }
-                self.remove_if_general(rt, seat, key, number)
-            }
+        let told = self.write_straight(seat, key, Want::Equal(number), Change::Remove, &mut left);
+        if let Straight::Made(reply) = told {
+            return reply.matched;
         }
+        if left == 0 {
+            spin();
+        }
+        self.remove_if_general(rt, seat, key, number)
     }
 
     /// Goes on with `remove_if`.
