@@ -125,6 +125,7 @@ fn grow(chain: &Chain, seat: &mut ChainSeat, call: &Call, rung: Rung)
 }
 
 /// Completes the table below `g`, if there is one that isn't known to be complete.
+#[inline(never)]
 fn make_ready(chain: &Chain, seat: &mut ChainSeat, g: u32, below: Below)
     requires own { IsOwn chain.now seat.old }
     requires installed { IsInstalled (seen_by chain.now.shape seat.old) g }
