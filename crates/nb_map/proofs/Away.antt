@@ -21,8 +21,11 @@ use Rattle.nb_map.specs.Progress.{IsAloneAtHome, IsShortAtHome, Limit, Tries, Un
 use Rattle.nb_map.specs.Promises.{Found, HasAnswered, HasWritten, Matched, Outcome, Refused, Replied}
 use Rattle.nb_map.specs.Refusals.{AreAllTries, HasRefused, IsJust}
 use Rattle.nb_map.specs.Steps.{put_steps}
+use Rattle.nb_map.specs.declared.faults.PutFault.TheVariants.{ValueRange}
 use Rattle.nb_map.specs.declared.faults.PutFault.{PutFault}
-use Rattle.nb_map.specs.inside.Waiting.{HasClimbed, HasGoneOn, HasLookedInVain, HasYetToWrite, IsStopped, LeavesTries, general_steps}
+use Rattle.nb_map.specs.declared.steps.slot.Straight.TheVariants.{GoesOn, Made, Overflow}
+use Rattle.nb_map.specs.declared.steps.slot.Straight.{Straight}
+use Rattle.nb_map.specs.inside.Waiting.{CantOverflow, HasBeenTold, HasClimbed, HasGoneOn, HasGoneStraight, HasLookedInVain, HasYetToWrite, IsStopped, LeavesTries, general_steps}
 
 -- ---- what is left of the tries
 
@@ -124,6 +127,61 @@ module _ {map : MapOf} {call : Call} {before after : SeatOf} {limit : Limit} (mi
       own = uncounted-mine mine climbed.made same refl;
     }
 
+-- ---- the straight way
+
+-- with one try at least
+module _ {map : MapOf} {call : Call} {before after : SeatOf} (limit : Limit)
+    (some : (passed : ℕ) → 1 ≤ within limit (passed + 1)) (mine : IsMine map before) where
+  -- it has made the write, and what that did to the number of keys is counted
+  pub made_straight :
+      (reply : Reply)
+      → HasBeenTold map.chain.shape call before.chain after.chain (Ok reply)
+      → after.count ≡ accounted (net_of_call call reply) before.count
+      → HasWritten map call before after limit (Replied reply)
+  made_straight reply told counted = record {
+    answered = logged mine told.made;
+    non_blocking = record {
+      steps = (_, made-within _ _ (put-rises map.chain.shape 1 _ (some _)) told.made);
+      net = net_of_call call reply;
+      count = counted;
+    };
+    short = told.short;
+    own = counted-mine reply mine told.made counted;
+  }
+
+  -- or the write is refused there
+  pub stopped_straight :
+      HasBeenTold map.chain.shape call before.chain after.chain (Err ValueRange)
+      → after.count ≡ before.count → HasWritten map call before after limit (Refused ValueRange)
+  stopped_straight told same = record {
+    answered = record {
+      unmade = logged mine told.made;
+      just = told.refused;
+      looked = told.looked;
+    };
+    non_blocking = worked-uncounted
+        (made-within _ _ (put-rises map.chain.shape 1 _ (some _)) told.made) same;
+    short = told.short;
+    own = uncounted-mine mine told.made same refl;
+  }
+
+-- or has looked in vain
+pub away_straight :
+    {map : MapOf} {call : Call} {before after : SeatOf} {lost : ℕ} (limit left : Limit)
+    → IsMine map before → HasLookedInVain map.chain call before.chain after.chain lost
+    → LeavesTries limit lost left → after.count ≡ before.count
+    → HasYetToWrite map call before after limit left
+away_straight limit left mine away rest same = record {
+  mine = mine;
+  lost = _;
+  looked = away;
+  left_over = rest;
+  count = same;
+  own = uncounted-mine mine away.made same refl;
+}
+
+-- ---- both ways
+
 module _ {map : MapOf} {call : Call} {before then : SeatOf} {limit left : Limit}
     (away : HasYetToWrite map call before then limit left) where
   -- the look in vain is no call
@@ -161,35 +219,15 @@ module _ {map : MapOf} {call : Call} {before then : SeatOf} {limit left : Limit}
         own = on.own;
       }
 
--- ---- a write that waits
+-- ---- a write that puts no sum
 
--- what takes one try takes as many as it may
-module _ {map : MapOf} {call : Call} {before after : SeatOf} where
-  pub unlimited :
-      {outcome told : Outcome} → HasWritten map call before after (Tries 1) outcome
-      → HasAnswered (HasRefused map call before after Unlimited) call before after told
-      → HasWritten map call before after Unlimited told
-  unlimited written answered =
-      let (calls, made) = written.non_blocking.steps in
-      record {
-        answered = answered;
-        non_blocking = record {
-          steps = (calls, made-within _ _ (put-rises map.chain.shape _ _ (omega arith)) made);
-          net = written.non_blocking.net;
-          count = written.non_blocking.count;
-        };
-        short = written.short;
-        own = written.own;
-      }
-
-  pub unlimited-rest :
-      {left : Limit} → HasYetToWrite map call before after (Tries 1) left
-      → HasYetToWrite map call before after Unlimited Unlimited
-  unlimited-rest away = record {
-    mine = away.mine;
-    lost = away.lost;
-    looked = away.looked;
-    left_over = tt;
-    count = away.count;
-    own = away.own;
-  }
+-- its straight way refuses it nothing: where it isn't made there, it has yet to be made
+pub goes_on :
+    (map : MapOf) (call : Call) (before after : SeatOf) (limit left : Limit) (told : Straight)
+    → CantOverflow call → HasGoneStraight map call before after limit left told
+    → ((reply : Reply) → told ≡ Made reply → ⊥) → HasYetToWrite map call before after limit left
+goes_on map call before after limit left (Made reply) sumless gone unmade =
+    absurd (unmade reply refl)
+goes_on map call before after limit left Overflow sumless gone unmade =
+    absurd (sumless _ gone.answered.just)
+goes_on map call before after limit left GoesOn sumless gone unmade = gone

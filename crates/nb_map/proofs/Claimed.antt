@@ -1,5 +1,5 @@
 -- How a slot for a key is claimed, and how a table is completed where there is none.
-use Rattle.std.proofs.Common.{◌≡◌, ◌≢◌, ◌∙◌, ℕ, ◌==◌, zero, suc, ◌+◌, ◌-◌, ◌*◌, ◌<◌, ◌≤◌, ◌⊎◌, Bool, true, false, IsTrue, cond, List, [], ◌∷◌, ◌++◌, None, ap, sym, subst, refl, inl, inr, arith}
+use Rattle.std.proofs.Common.{◌≡◌, ◌≢◌, ◌∙◌, ℕ, ◌==◌, zero, suc, ◌+◌, ◌-◌, ◌*◌, ◌<◌, ◌≤◌, ◌⊎◌, Bool, true, false, IsTrue, cond, List, [], ◌∷◌, ◌++◌, None, ap, sym, subst, subst₂, refl, inl, inr, arith}
 use Rattle.nb_core.specs.Calls.{leaves_alone}
 use Rattle.nb_core.specs.History.{HasWay, key_of_call}
 use Rattle.nb_core.specs.Tables.{IsPassed, AreOthers, HasSlotBelow, IsComplete, IsInstalled, IsReady, Tables, path_slot, tables_at}
@@ -14,7 +14,7 @@ use Rattle.nb_table.specs.Chains.{ChainOf, Extended, IsOwn, SeenBy, seen_by}
 use Rattle.nb_copy.specs.Handing.{HasCompleted, table_steps}
 use Rattle.nb_map.specs.Logs.{as_replied}
 use Rattle.nb_map.proofs.Made.{made-copied, made-more, made-none, made-quiet, made-step, made-within}
-use Rattle.nb_map.proofs.Searched.{made-then}
+use Rattle.nb_map.proofs.Searched.{made-then, table-within}
 use Rattle.nb_map.specs.Calling.{HasMade, IsBeforeNext}
 use Rattle.nb_map.specs.inside.Reading.{read_at}
 use Rattle.nb_map.specs.Steps.{probe_steps}
@@ -22,6 +22,7 @@ use Rattle.nb_map.specs.inside.Climbing.{GoesAbove, HasBelow}
 use Rattle.nb_map.specs.Steps.{search_steps, grow_steps, owed_below, steps_below}
 use Rattle.nb_map.specs.declared.steps.rung.Below.{Below}
 use Rattle.nb_map.specs.declared.steps.rung.Below.TheVariants.{Complete, HasKey, Passed}
+use Rattle.nb_map.specs.declared.steps.rung.Rung.{Rung}
 use Rattle.nb_map.specs.declared.steps.search.PathEnd.{PathEnd}
 use Rattle.nb_map.specs.declared.steps.search.PathEnd.TheVariants as ends
 use Rattle.nb_core.proofs.Theorems.{complete_passed, linked, whole_crowded}
@@ -133,6 +134,11 @@ others-nearer p t g k d e nearer others f near = others f (omega (arith, near, n
 
 -- ---- what was done
 
+-- A look at a table's next word, unless it is the last one, showed no next table.
+pub record HasNoNext (chain : ChainOf) (call : Call) (before after : SeenBy) (g : ℕ) : Type 0 where
+  pub made : HasMade chain.shape call before after [] 1
+  pub none : IsInstalled (seen_by chain.shape after) (suc g) → ⊥
+
 module _ (chain : ChainOf) where
   abbrev p : Plan
   p = chain.shape
@@ -166,6 +172,28 @@ module _ (chain : ChainOf) where
       } in
       made-step p call won refl (table, inr (sym is, acts, first)) (λ h. refl) (λ f. refl)
 
+  -- the last table has no next one
+  pub last-table :
+      (call : Call) {before seat : SeenBy} {g n : ℕ} → seat ≡ before → IsOwn chain before
+      → n ≡ generations_of p → n ≤ g + 1 → HasNoNext chain call before seat g
+  last-table call {before} {g = g} is own tables last =
+      subst (λ (seat : SeenBy). HasNoNext chain call before seat g) (sym is) (record {
+        made = made-within 0 1 (omega arith) (made-none chain call before own);
+        none = λ next.
+            omega (arith, table-within chain before own (suc g) next, tables, last);
+      })
+
+  -- another has none where a load showed none
+  pub none-seen :
+      (call : Call) {before after seat : SeenBy} {g : ℕ} → seat ≡ after
+      → Extended p before after [] 1 → (IsInstalled (seen_by p after) (suc g) → false ≡ true)
+      → HasNoNext chain call before seat g
+  none-seen call {before} {g = g} is load none =
+      subst (λ (seat : SeenBy). HasNoNext chain call before seat g) (sym is) (record {
+        made = made-quiet p call load;
+        none = λ next. absurd (let both = none next in cc);
+      })
+
   -- then a table was completed
   pub made-complete :
       {call : Call} {before then after : SeenBy} {g most : ℕ} → suc g < generations_of p
@@ -174,6 +202,53 @@ module _ (chain : ChainOf) where
       → HasMade p call before after [] (most + table_steps p g)
   made-complete {call} next own so_far done =
       made-more chain own so_far (made-copied chain call next refl done.copied)
+
+-- ---- what is known of the table below
+
+-- A call that has come to an empty slot at this distance has come to this rung, before it claims
+-- the slot: the table below is complete or the key has a slot in it.
+pub record HasSettled (chain : ChainOf) (call : Call) (at : Rung) (d : ℕ) (before after : SeenBy)
+    (rung : Rung) : Type 0 where
+  pub is : rung ≡ record { g = at.g; from = d; below = rung.below }
+  pub known : rung.below ≢ Passed
+  pub fewer : owed_below chain.shape at.g rung.below ≤ owed_below chain.shape at.g at.below
+  pub made :
+      HasMade chain.shape call before after []
+      (owed_below chain.shape at.g at.below - owed_below chain.shape at.g rung.below)
+  pub has :
+      (k : ℕ) → HasBelow chain.shape (seen_by chain.shape before) at.g k at.below
+      → HasBelow chain.shape (seen_by chain.shape after) at.g k rung.below
+
+module _ (chain : ChainOf) (call : Call) {at rung : Rung} {d : ℕ} {before seat : SeenBy} where
+  -- the table below has been completed for it
+  pub settled-now :
+      {after : SeenBy} → seat ≡ after → rung ≡ record { g = at.g; from = d; below = Complete }
+      → HasMade chain.shape call before after [] (owed_below chain.shape at.g at.below)
+      → IsReady chain.shape (seen_by chain.shape after) at.g
+      → HasSettled chain call at d before seat rung
+  settled-now here is made ready =
+      subst₂ (λ (seat : SeenBy) (rung : Rung). HasSettled chain call at d before seat rung) (sym here)
+      (sym is) (record {
+        is = refl;
+        known = λ same. cc;
+        fewer = omega arith;
+        made = made-within _ _ (omega arith) made;
+        has = λ k has. ready;
+      })
+
+  -- or it knew enough
+  pub settled-before :
+      seat ≡ before → rung ≡ record { g = at.g; from = d; below = at.below } → at.below ≢ Passed
+      → IsOwn chain before → HasSettled chain call at d before seat rung
+  settled-before here is known own =
+      subst₂ (λ (seat : SeenBy) (rung : Rung). HasSettled chain call at d before seat rung) (sym here)
+      (sym is) (record {
+        is = refl;
+        known = known;
+        fewer = omega arith;
+        made = made-within 0 _ (omega arith) (made-none chain call before own);
+        has = λ k has. has;
+      })
 
 -- a walk of a call that puts a number at an absent key is no read
 read-never :

@@ -24,8 +24,8 @@ use Rattle.nb_map.specs.declared.map.answers.Gone.TheVariants as gone
 use Rattle.nb_map.specs.declared.map.answers.Gone.{Gone}
 use Rattle.nb_map.specs.declared.map.answers.Tried.TheVariants as tried
 use Rattle.nb_map.specs.declared.map.answers.Tried.{Tried}
-use Rattle.nb_map.specs.declared.steps.write.Straight.TheVariants as straight
-use Rattle.nb_map.specs.declared.steps.write.Straight.{Straight}
+use Rattle.nb_map.specs.declared.steps.slot.Straight.TheVariants as straight
+use Rattle.nb_map.specs.declared.steps.slot.Straight.{Straight}
 
 -- ---- on the tables
 
@@ -108,11 +108,6 @@ HasGoneStraight map call before after limit left straight.Overflow =
     HasWritten map call before after limit (Refused fault.ValueRange)
 HasGoneStraight map call before after limit left straight.GoesOn =
     HasYetToWrite map call before after limit left
-
--- the reply of a write that is made, and else that it goes on
-abbrev pub made_or_on : Option Reply → Straight
-made_or_on (Some reply) = straight.Made reply
-made_or_on None = straight.GoesOn
 
 -- it is refused for a reason that is just for so many tries
 pub record IsStopped (map : MapOf) (call : Call) (before after : SeatOf) (limit : Limit)

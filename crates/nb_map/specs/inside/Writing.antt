@@ -1,19 +1,14 @@
--- What a write does to what it finds, and where its key's home slot is.
+-- What a write does to what it finds.
 use Rattle.std.specs.FinMap as map
 use Rattle.std.specs.Prelude.{◌≡◌, ℕ, true, false, Option}
 use Rattle.nb_core.specs.Calls.{leaves_alone, overflows}
 use Rattle.nb_core.specs.History.{IsExchange, number_in_value, key_of_call}
 use Rattle.nb_core.specs.Log.{Numbers, reply_at}
-use Rattle.nb_core.specs.Paths.{IsPlaced}
-use Rattle.nb_core.specs.Tables.{IsInstalled, IsReady, IsUnprimed, path_slot}
+use Rattle.nb_core.specs.Tables.{IsUnprimed}
 use Rattle.nb_core.specs.declared.calls.Call.{Call}
-use Rattle.nb_core.specs.declared.slot_paths.Slot.{Slot}
 use Rattle.nb_core.specs.declared.states.ValueState.{ValueState}
-use Rattle.nb_table.specs.Chains.{ChainOf, IsOwn, SeenBy, seen_by}
 use Rattle.nb_map.specs.declared.steps.slot.Decision.TheVariants as decision
 use Rattle.nb_map.specs.declared.steps.slot.Decision.{Decision}
-
--- ---- what a call does at its key
 
 -- The call does this where its key has this number, or none: it leaves that as it is and replies
 -- so; or its condition holds and it puts this value in place of any that has this number; or it
@@ -29,13 +24,3 @@ IsDecided call number (decision.Exchange to) =
 IsDecided call number decision.Overflow =
     (leaves_alone call number ≡ false) × ((m : Numbers) → map.get m (key_of_call call) ≡ number
     → overflows call m ≡ true)
-
--- ---- at home
-
--- The slot is the home of the call's key in a table that is there. The table below is complete.
-pub record IsHomeOf (chain : ChainOf) (call : Call) (seat : SeenBy) (home : Slot) : Type 0 where
-  pub own : IsOwn chain seat
-  pub slot : IsPlaced chain.shape home
-  pub is : path_slot chain.shape home.g (key_of_call call) 0 ≡ home.i
-  pub installed : IsInstalled (seen_by chain.shape seat) home.g
-  pub ready : IsReady chain.shape (seen_by chain.shape seat) home.g

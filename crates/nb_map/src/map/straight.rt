@@ -6,70 +6,22 @@ ghost use Rattle.nb_core.specs.Meaning.{net_of_change};
 ghost use Rattle.nb_core.specs.declared.calls.Call.TheVariants as call;
 ghost use Rattle.nb_map.specs.Maps.{IsMine, accounted};
 ghost use Rattle.nb_map.specs.Progress.{Tries, Unlimited};
-ghost use Rattle.nb_map.specs.inside.Waiting.{CantOverflow, HasGoneStraight, made_or_on};
+ghost use Rattle.nb_map.specs.inside.Waiting.{HasGoneStraight};
 
 use crate::map::{Map, Seat};
-use crate::steps::pause::{NoPause, rest_if_lost};
-use crate::steps::write::{Straight, write_home};
+use crate::steps::pause::{NoPause, spin};
+use crate::steps::slot::{Straight, write_home};
 use nb_core::{Call, Change, Key, Reply, Want};
 use nb_count::CountSeat;
 
 impl Map {
-    /// The straight way of a write that waits and puts no sum: so it isn't refused there. It rests
-    /// where it loses its try.
+    /// The straight way of a write, its first try, and the count of what it did to the number of
+    /// keys. It rests where the loss of its try has shown that there is nothing left to do, as of a
+    /// put of the number that the other write has put. Where it has to go on by the general way,
+    /// its lost try is taken from the tries, of which maybe none is left. A write that waits has
+    /// one here, and as many as it takes there.
     #[inline(always)]
     pub(super) fn write_straight(
-        &self,
-        seat: &mut Seat,
-        key: Key,
-        want: Want,
-        change: Change,
-    ) -> Option<Reply>
-        requires own { IsMine self.now seat.old }
-        requires no_sum { CantOverflow (call.Write key want change) }
-        ensures { HasGoneStraight self.now (call.Write key want change) seat.old seat.new
-            Unlimited Unlimited (made_or_on result) }
-    {
-        let mut left = 1;
-        match self.try_straight(seat, key, want, change, &mut left) {
-            Straight::Made(reply) => Some(reply),
-            Straight::Overflow => unreachable!(),
-            Straight::GoesOn => {
-                rest_if_lost(left);
-                None
-            }
-        }
-    }
-
-    /// The straight way of a write with so many tries that puts no sum: so it isn't refused there.
-    #[inline(always)]
-    pub(super) fn try_set(
-        &self,
-        seat: &mut Seat,
-        key: Key,
-        want: Want,
-        change: Change,
-        tries: &mut u32,
-    ) -> Option<Reply>
-        requires own { IsMine self.now seat.old }
-        requires some { 1 ≤ tries.old }
-        requires no_sum { CantOverflow (call.Write key want change) }
-        ensures { HasGoneStraight self.now (call.Write key want change) seat.old seat.new
-            (Tries tries.old) (Tries tries.new) (made_or_on result) }
-    {
-        match self.try_straight(seat, key, want, change, tries) {
-            Straight::Made(reply) => Some(reply),
-            Straight::Overflow => unreachable!(),
-            Straight::GoesOn => None,
-        }
-    }
-
-    /// The straight way of a write with so many tries, its first one, and the count of what it did
-    /// to the number of keys. It rests where the loss of its try has shown that there is nothing
-    /// left to do, as of a put of the number that the other write has put. Where it has to go on by
-    /// the general way, its lost try is taken from the tries, of which maybe none is left.
-    #[inline(always)]
-    pub(super) fn try_straight(
         &self,
         seat: &mut Seat,
         key: Key,
@@ -79,14 +31,18 @@ impl Map {
     ) -> Straight
         requires own { IsMine self.now seat.old }
         requires some { 1 ≤ tries.old }
-        ensures { HasGoneStraight self.now (call.Write key want change) seat.old seat.new
+        ensures tries { HasGoneStraight self.now (call.Write key want change) seat.old seat.new
             (Tries tries.old) (Tries tries.new) result }
+        ensures waits { HasGoneStraight self.now (call.Write key want change) seat.old seat.new
+            Unlimited Unlimited result }
     {
         let call = Call::Write { key, want, change };
         let mut left = 1;
         match write_home(&self.chain, &mut seat.chain, &call, &mut left, &mut NoPause) {
             Straight::Made(reply) => {
-                rest_if_lost(left);
+                if left == 0 {
+                    spin();
+                }
                 self.count(&mut seat.count, &change, &reply);
                 Straight::Made(reply)
             }

@@ -16,7 +16,8 @@ use crate::faults::PutFault;
 use crate::map::answers::Tried;
 use crate::map::{Map, Seat};
 use crate::steps::pause::NoPause;
-use crate::steps::write::{Straight, write_above};
+use crate::steps::slot::Straight;
+use crate::steps::write::write_above;
 use nb_core::{Call, Change, Key, Num, Reply, Want};
 
 impl Map {
@@ -50,7 +51,7 @@ impl Map {
         // By reference, since Rattle's borrow checker covers no second move of these two.
         let (asked, made) = (&want, &change);
         let mut left = tries;
-        match self.try_straight(seat, key, *asked, *made, &mut left) {
+        match self.write_straight(seat, key, *asked, *made, &mut left) {
             Straight::Made(reply) => Ok(reply),
             Straight::Overflow => Err(PutFault::ValueRange),
             Straight::GoesOn => self.put_if_match_general(seat, key, *asked, *made, left),
@@ -91,10 +92,11 @@ impl Map {
             (found_or_refused result) }
     {
         let mut left = tries;
-        match self.try_set(seat, key, Want::Any, Change::Put(number), &mut left) {
-            Some(reply) => Ok(reply.before),
-            None => self.try_put_general(seat, key, number, left).answer(),
+        let told = self.write_straight(seat, key, Want::Any, Change::Put(number), &mut left);
+        if let Straight::Made(reply) = told {
+            return Ok(reply.before);
         }
+        self.try_put_general(seat, key, number, left).answer()
     }
 
     /// Goes on with `try_put`.
@@ -124,12 +126,12 @@ impl Map {
             (found_or_refused result) }
     {
         let mut left = tries;
-        match self.try_set(seat, key, Want::Absent, Change::Put(number), &mut left) {
-            Some(reply) => Ok(reply.before),
-            None => self
-                .try_put_if_absent_general(seat, key, number, left)
-                .answer(),
+        let told = self.write_straight(seat, key, Want::Absent, Change::Put(number), &mut left);
+        if let Straight::Made(reply) = told {
+            return Ok(reply.before);
         }
+        self.try_put_if_absent_general(seat, key, number, left)
+            .answer()
     }
 
     /// Goes on with `try_put_if_absent`.
@@ -159,7 +161,7 @@ impl Map {
             (found_or_refused result) }
     {
         let mut left = tries;
-        match self.try_straight(seat, key, Want::Any, Change::Add(number), &mut left) {
+        match self.write_straight(seat, key, Want::Any, Change::Add(number), &mut left) {
             Straight::Made(reply) => Ok(reply.before),
             Straight::Overflow => Err(PutFault::ValueRange),
             Straight::GoesOn => self.try_add_general(seat, key, number, left).answer(),
@@ -187,10 +189,11 @@ impl Map {
             (found_or_refused result) }
     {
         let mut left = tries;
-        match self.try_set(seat, key, Want::Any, Change::Remove, &mut left) {
-            Some(reply) => Ok(reply.before),
-            None => self.try_remove_general(seat, key, left).answer(),
+        let told = self.write_straight(seat, key, Want::Any, Change::Remove, &mut left);
+        if let Straight::Made(reply) = told {
+            return Ok(reply.before);
         }
+        self.try_remove_general(seat, key, left).answer()
     }
 
     /// Goes on with `try_remove`.

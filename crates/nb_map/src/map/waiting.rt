@@ -17,8 +17,8 @@ ghost use Rattle.nb_map.specs.inside.Waiting.{HasGoneOn, answer_of_added, answer
 use crate::faults::{AddFault, Full};
 use crate::map::answers::{Added, Gone};
 use crate::map::{Map, Seat};
-use crate::steps::pause::rest_if_lost;
-use crate::steps::write::Straight;
+use crate::steps::pause::spin;
+use crate::steps::slot::Straight;
 use nb_core::{Change, Key, Num, Want};
 use std::sync::Wait;
 
@@ -44,10 +44,15 @@ impl Map {
         ensures { HasWritten self.now (put_of key number) seat.old seat.new Unlimited
             (found_or_full result) }
     {
-        match self.write_straight(seat, key, Want::Any, Change::Put(number)) {
-            Some(reply) => Ok(reply.before),
-            None => self.put_general(rt, seat, key, number).answer(),
+        let mut left = 1;
+        let told = self.write_straight(seat, key, Want::Any, Change::Put(number), &mut left);
+        if let Straight::Made(reply) = told {
+            return Ok(reply.before);
         }
+        if left == 0 {
+            spin();
+        }
+        self.put_general(rt, seat, key, number).answer()
     }
 
     /// Goes on with `put`.
@@ -75,10 +80,15 @@ impl Map {
         ensures { HasWritten self.now (put_if_absent_of key number) seat.old seat.new Unlimited
             (found_or_full result) }
     {
-        match self.write_straight(seat, key, Want::Absent, Change::Put(number)) {
-            Some(reply) => Ok(reply.before),
-            None => self.put_if_absent_general(rt, seat, key, number).answer(),
+        let mut left = 1;
+        let told = self.write_straight(seat, key, Want::Absent, Change::Put(number), &mut left);
+        if let Straight::Made(reply) = told {
+            return Ok(reply.before);
         }
+        if left == 0 {
+            spin();
+        }
+        self.put_if_absent_general(rt, seat, key, number).answer()
     }
 
     /// Goes on with `put_if_absent`.
@@ -99,10 +109,15 @@ impl Map {
         ensures { HasWritten self.now (replace_of key number) seat.old seat.new Unlimited
             (Found result) }
     {
-        match self.write_straight(seat, key, Want::Present, Change::Put(number)) {
-            Some(reply) => reply.before,
-            None => self.replace_general(rt, seat, key, number),
+        let mut left = 1;
+        let told = self.write_straight(seat, key, Want::Present, Change::Put(number), &mut left);
+        if let Straight::Made(reply) = told {
+            return reply.before;
         }
+        if left == 0 {
+            spin();
+        }
+        self.replace_general(rt, seat, key, number)
     }
 
     /// Goes on with `replace`.
@@ -130,10 +145,15 @@ impl Map {
         ensures { HasWritten self.now (replace_if_of key old new) seat.old seat.new Unlimited
             (Matched result) }
     {
-        match self.write_straight(seat, key, Want::Equal(old), Change::Put(new)) {
-            Some(reply) => reply.matched,
-            None => self.replace_if_general(rt, seat, key, old, new),
+        let mut left = 1;
+        let told = self.write_straight(seat, key, Want::Equal(old), Change::Put(new), &mut left);
+        if let Straight::Made(reply) = told {
+            return reply.matched;
         }
+        if left == 0 {
+            spin();
+        }
+        self.replace_if_general(rt, seat, key, old, new)
     }
 
     /// Goes on with `replace_if`.
@@ -162,10 +182,15 @@ impl Map {
         ensures { HasWritten self.now (remove_of key) seat.old seat.new Unlimited
             (Found result) }
     {
-        match self.write_straight(seat, key, Want::Any, Change::Remove) {
-            Some(reply) => reply.before,
-            None => self.remove_general(rt, seat, key),
+        let mut left = 1;
+        let told = self.write_straight(seat, key, Want::Any, Change::Remove, &mut left);
+        if let Straight::Made(reply) = told {
+            return reply.before;
         }
+        if left == 0 {
+            spin();
+        }
+        self.remove_general(rt, seat, key)
     }
 
     /// Goes on with `remove`.
@@ -186,10 +211,15 @@ impl Map {
         ensures { HasWritten self.now (remove_if_of key number) seat.old seat.new Unlimited
             (Matched result) }
     {
-        match self.write_straight(seat, key, Want::Equal(number), Change::Remove) {
-            Some(reply) => reply.matched,
-            None => self.remove_if_general(rt, seat, key, number),
+        let mut left = 1;
+        let told = self.write_straight(seat, key, Want::Equal(number), Change::Remove, &mut left);
+        if let Straight::Made(reply) = told {
+            return reply.matched;
         }
+        if left == 0 {
+            spin();
+        }
+        self.remove_if_general(rt, seat, key, number)
     }
 
     /// Goes on with `remove_if`.
@@ -219,11 +249,13 @@ impl Map {
             (found_or_refused (uncontended result)) }
     {
         let mut left = 1;
-        match self.try_straight(seat, key, Want::Any, Change::Add(number), &mut left) {
+        match self.write_straight(seat, key, Want::Any, Change::Add(number), &mut left) {
             Straight::Made(reply) => Ok(reply.before),
             Straight::Overflow => Err(AddFault::ValueRange),
             Straight::GoesOn => {
-                rest_if_lost(left);
+                if left == 0 {
+                    spin();
+                }
                 self.add_general(rt, seat, key, number).answer()
             }
         }

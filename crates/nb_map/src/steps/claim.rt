@@ -1,5 +1,5 @@
-//! A slot for the key of a call that puts a number at an absent key.
-ghost use Rattle.std.specs.Prelude.{IfErr, IfOk, [], suc, ℕ, ◌+◌, ◌-◌, ◌<◌, ◌≡◌, ◌≢◌, ◌≤◌};
+//! The slot for a call's key in one table, claimed where it has none.
+ghost use Rattle.std.specs.Prelude.{IfErr, IfOk, [], suc, ◌+◌, ◌<◌, ◌≡◌, ◌≢◌};
 ghost use Rattle.nb_core.specs.Calls.{Fills};
 ghost use Rattle.nb_core.specs.History.{key_of_call};
 ghost use Rattle.nb_core.specs.Plans.{generations_of, limit_of, size_of};
@@ -9,42 +9,55 @@ ghost use Rattle.nb_table.specs.Chains.{IsOwn, seen_by};
 ghost use Rattle.nb_map.specs.Calling.{HasMade};
 ghost use Rattle.nb_map.specs.Steps.{grow_steps, owed_below, search_steps};
 ghost use Rattle.nb_map.specs.declared.steps.rung.Below.TheVariants as below_is;
-ghost use Rattle.nb_map.specs.inside.Climbing.{HasBelow, IsAt, IsClaimed, IsFound, IsVisitHere, made_by, made_if_not_found};
+ghost use Rattle.nb_map.specs.inside.Climbing.{IsAt, IsClaimed, IsFound, IsVisitHere, made_by, made_if_not_found};
 
 use crate::faults::PutFault;
 use crate::steps::rung::{Below, Rung, Visit};
-use crate::steps::search::{PathEnd, probe};
-use crate::steps::write::has_next;
+use crate::steps::search::{PathEnd, probe, seek};
+use crate::steps::slot::{Decision, decide};
 use nb_copy::complete;
 use nb_core::{Call, KeyState};
 use nb_table::{Chain, ChainSeat};
 
-/// The key's slot in the table that a call has come to. Where it has none, one within the limit is
-/// claimed for it. If its path is closed, the call goes on in the next table. If the table has a
-/// next one, or other keys have the path up to the limit, the table is completed first, and the next
-/// one installed where it isn't there. If other keys have the whole last table, the call is refused.
+/// The key's slot in the table that a call has come to, by a search along the key's path; or what
+/// the call comes to there without one. A call that puts a number at an absent key claims one within
+/// the limit where its key has none. If its path is closed, the call goes on in the next table. If
+/// the table has a next one, or other keys have the path up to the limit, the table is completed
+/// first, and the next one installed where it isn't there. If other keys have the whole last table,
+/// the call is refused.
 #[inline(always)]
-pub(crate) fn find_or_claim(
+pub(crate) fn find(
     chain: &Chain,
     seat: &mut ChainSeat,
     call: &Call,
     rung: Rung,
 ) -> Result<usize, Visit>
     requires at { IsAt chain.now call.now seat.old rung }
-    requires fills { Fills call.now }
     ensures made { HasMade chain.now.shape call.now seat.old seat.new
         (made_if_not_found call.now result) (search_steps chain.now.shape rung.g) }
     ensures found { IsFound chain.now.shape call.now seat.new rung.g result }
 {
+    if let Decision::Leave(reply) = decide(call, &None, &None) {
+        return seek(chain, seat, call, rung, reply);
+    }
     let mut rung = rung;
     loop {
         match probe(chain, seat, call, rung) {
             PathEnd::Slot(i) => return Ok(i),
             PathEnd::Closed => return Err(Visit::Above(Below::Passed)),
-            PathEnd::Whole => return Err(leave_whole(chain, seat, call, rung)),
+            PathEnd::Whole if rung.g + 1 == chain.shape().generations() => {
+                return Err(Visit::Refused(PutFault::Full));
+            }
+            PathEnd::Whole => {
+                grow(chain, seat, call, rung);
+                return Err(Visit::Above(Below::Complete));
+            }
             PathEnd::Empty(distance) => {
                 rung.from = distance;
-                rung.below = settle_below(chain, seat, rung.g, rung.below);
+                if let Below::Passed = rung.below {
+                    make_ready(chain, seat, rung.g, rung.below);
+                    rung.below = Below::Complete;
+                }
                 match claim_at(chain, seat, call, rung) {
                     Ok(Some(i)) => return Ok(i),
                     Ok(None) => rung.from = distance + 1,
@@ -78,7 +91,7 @@ fn claim_at(
         grow(chain, seat, call, rung);
         return Err(Visit::Above(Below::Complete));
     }
-    if has_next(chain, seat, rung.g) {
+    if rung.g + 1 < chain.shape().generations() && chain.load_next(seat, rung.g, None) {
         complete(chain, seat, rung.g);
         return Err(Visit::Above(Below::Complete));
     }
@@ -89,25 +102,6 @@ fn claim_at(
         KeyState::Dead => Err(Visit::Above(Below::Passed)),
         KeyState::Claimed(other) => { if other == key { Ok(Some(i)) } else { Ok(None) } }
     }
-}
-
-/// What a call comes to where other keys have its key's whole path: in the last table there is no
-/// slot for the key; else it goes on in the next one.
-#[tactic(auto, using(nb_core::proofs::Theorems::linked))]
-fn leave_whole(chain: &Chain, seat: &mut ChainSeat, call: &Call, rung: Rung) -> Visit
-    requires at { IsAt chain.now call.now seat.old rung }
-    requires fills { Fills call.now }
-    requires whole { AreOthers chain.now.shape (seen_by chain.now.shape seat.old) rung.g
-        (key_of_call call.now) (size_of chain.now.shape rung.g) }
-    ensures made { HasMade chain.now.shape call.now seat.old seat.new (made_by call.now result)
-        (grow_steps chain.now.shape rung.g rung.below) }
-    ensures visit { IsVisitHere chain.now.shape call.now seat.new rung.g result }
-{
-    if rung.g + 1 == chain.shape().generations() {
-        return Visit::Refused(PutFault::Full);
-    }
-    grow(chain, seat, call, rung);
-    Visit::Above(Below::Complete)
 }
 
 /// Installs the table above the one that a call has come to, if it isn't there, and completes this
@@ -130,28 +124,8 @@ fn grow(chain: &Chain, seat: &mut ChainSeat, call: &Call, rung: Rung)
     complete(chain, seat, rung.g);
 }
 
-/// What a call knows of the table below `g` before it claims a slot in `g`. Where it knew no more
-/// than that its key is passed there, that table is completed.
-fn settle_below(chain: &Chain, seat: &mut ChainSeat, g: u32, below: Below) -> Below
-    requires own { IsOwn chain.now seat.old }
-    requires installed { IsInstalled (seen_by chain.now.shape seat.old) g }
-    ensures made { (call : Call) → HasMade chain.now.shape call seat.old seat.new []
-        (owed_below chain.now.shape g below - owed_below chain.now.shape g result) }
-    ensures own { IsOwn chain.now seat.new }
-    ensures fewer { owed_below chain.now.shape g result ≤ owed_below chain.now.shape g below }
-    ensures below { (key : ℕ) → HasBelow chain.now.shape (seen_by chain.now.shape seat.old)
-        g key below
-        → HasBelow chain.now.shape (seen_by chain.now.shape seat.new) g key result }
-    ensures known { result ≢ below_is.Passed }
-{
-    if let Below::Passed = below {
-        make_ready(chain, seat, g, below);
-        return Below::Complete;
-    }
-    below
-}
-
 /// Completes the table below `g`, if there is one that isn't known to be complete.
+#[inline(never)]
 fn make_ready(chain: &Chain, seat: &mut ChainSeat, g: u32, below: Below)
     requires own { IsOwn chain.now seat.old }
     requires installed { IsInstalled (seen_by chain.now.shape seat.old) g }

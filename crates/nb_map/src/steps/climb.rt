@@ -1,17 +1,15 @@
 //! A call on its way up the tables, from the one in which it begins.
 ghost use Rattle.std.specs.Prelude.{IfErr, IfOk, ◌+◌, ◌-◌, ◌≤◌};
-ghost use Rattle.nb_core.specs.Plans.{size_of};
 ghost use Rattle.nb_map.specs.Calling.{HasMade};
 ghost use Rattle.nb_map.specs.Logs.{made_in};
-ghost use Rattle.nb_map.specs.Steps.{climb_steps, rung_steps, search_steps};
-ghost use Rattle.nb_map.specs.inside.Climbing.{IsAt, IsForAbsent, IsFound, IsRefused, IsReplied, IsSpent, IsVisit, made_by, made_if_not_found};
+ghost use Rattle.nb_map.specs.Steps.{climb_steps, rung_steps};
+ghost use Rattle.nb_map.specs.inside.Climbing.{IsAt, IsRefused, IsReplied, IsSpent, IsVisit, made_by};
 
 use crate::faults::PutFault;
-use crate::steps::claim::find_or_claim;
+use crate::steps::claim::find;
 use crate::steps::pause::Pause;
-use crate::steps::rung::{Below, Rung, Visit};
-use crate::steps::search::{PathEnd, probe};
-use crate::steps::slot::{Decision, call_at, decide};
+use crate::steps::rung::{Rung, Visit};
+use crate::steps::slot::call_at;
 use nb_core::{Call, Reply, Slot};
 use nb_table::{Chain, ChainSeat};
 
@@ -85,53 +83,5 @@ fn visit<P: Pause>(
             call_at(chain, seat, call, slot, tries, pause)
         }
         Err(visit) => visit,
-    }
-}
-
-/// The key's slot in the table that a call has come to, by a search along the key's path; or what
-/// the call comes to there without one. A call that puts a number at an absent key claims one where
-/// its key has none.
-#[inline(always)]
-fn find(chain: &Chain, seat: &mut ChainSeat, call: &Call, rung: Rung) -> Result<usize, Visit>
-    requires at { IsAt chain.now call.now seat.old rung }
-    ensures made { HasMade chain.now.shape call.now seat.old seat.new
-        (made_if_not_found call.now result) (search_steps chain.now.shape rung.g) }
-    ensures found { IsFound chain.now.shape call.now seat.new rung.g result }
-{
-    match decide(call, &None, &None) {
-        Decision::Leave(reply) => seek(chain, seat, call, rung, reply),
-        _ => find_or_claim(chain, seat, call, rung),
-    }
-}
-
-/// The same for a call that leaves an absent key alone, with this reply. It claims nothing.
-#[inline]
-fn seek(
-    chain: &Chain,
-    seat: &mut ChainSeat,
-    call: &Call,
-    rung: Rung,
-    absent: Reply,
-) -> Result<usize, Visit>
-    requires at { IsAt chain.now call.now seat.old rung }
-    requires absent { IsForAbsent call.now absent }
-    ensures made { HasMade chain.now.shape call.now seat.old seat.new
-        (made_if_not_found call.now result) (size_of chain.now.shape rung.g - rung.from + 1) }
-    ensures found { IsFound chain.now.shape call.now seat.new rung.g result }
-{
-    match probe(chain, seat, call, rung) {
-        PathEnd::Slot(i) => Ok(i),
-        PathEnd::Empty(_) => Err(Visit::Told(absent)),
-        PathEnd::Closed => Err(Visit::Above(Below::Passed)),
-        PathEnd::Whole => {
-            if rung.g + 1 == chain.shape().generations() {
-                return Err(Visit::Told(absent));
-            }
-            if chain.load_next(seat, rung.g, Some(*call)) {
-                Err(Visit::Above(Below::Passed))
-            } else {
-                Err(Visit::Told(absent))
-            }
-        }
     }
 }

@@ -70,16 +70,8 @@ const TURNS: u32 = 200;
 /// Lets other threads go on for a while. It stands in the code of its callers: a call of a function
 /// would have them keep what they need later in registers that they have to store first.
 #[inline(always)]
-fn spin() {
+pub(crate) fn spin() {
     for _ in 0..TURNS {
         spin_loop();
-    }
-}
-
-/// Rests where a call has lost the one try of its straight way.
-#[inline(always)]
-pub(crate) fn rest_if_lost(left: u32) {
-    if left == 0 {
-        spin();
     }
 }

@@ -1,4 +1,5 @@
-//! A call at its key's slot in a table: what it does to what it finds there.
+//! A call at its key's slot in a table, and a write at its home slot: what it does to what it finds
+//! there.
 ghost use Rattle.std.specs.Prelude.{IfSome, Some, [], ℕ, ◌+◌, ◌-◌, ◌≡◌, ◌≤◌};
 ghost use Rattle.nb_core.specs.Calls.{same_number};
 ghost use Rattle.nb_core.specs.States.{shown_by_value};
@@ -11,14 +12,79 @@ ghost use Rattle.nb_table.specs.Chains.{IsOwn, seen_by};
 ghost use Rattle.nb_map.specs.Calling.{HasMade};
 ghost use Rattle.nb_map.specs.Steps.{pass_steps, slot_visit_steps};
 ghost use Rattle.nb_map.specs.inside.Climbing.{IsAbove, IsAtSlot, IsSpent, IsTried, IsVisit, IsWithoutTries, made_by, made_if_tried};
+ghost use Rattle.nb_map.specs.inside.Waiting.{HasTriedAtHome};
 ghost use Rattle.nb_map.specs.inside.Writing.{IsDecided};
 
 use crate::faults::PutFault;
 use crate::steps::pause::Pause;
 use crate::steps::rung::{Below, Visit};
 use nb_copy::copy_and_count;
-use nb_core::{Call, Num, Reply, Slot, ValueState, ValueWord};
+use nb_core::{Call, KeyState, Num, Reply, Slot, ValueState, ValueWord};
 use nb_table::{Chain, ChainSeat};
+
+/// What the straight way of a write comes to.
+#[derive(Clone, Copy)]
+pub(crate) enum Straight {
+    /// It is made, and this is its reply.
+    Made(Reply),
+    /// It would put a number past the greatest one, and is refused.
+    Overflow,
+    /// It has to go on by the general way.
+    GoesOn,
+}
+
+/// The straight way of a write: its first try, at its key's home slot in the table that its seat
+/// remembers as the top one, and whether that try is left. The write is made there if the slot is
+/// its key's; if it is empty and the write leaves an absent key alone; or if it is empty and can be
+/// claimed for the key, as it can unless the table is being copied. No loop over slots or tables is
+/// on this way, so that it can stand in the code of the call.
+#[inline(always)]
+#[tactic(auto, using(nb_core::proofs::Theorems::linked))]
+pub(crate) fn write_home<P: Pause>(
+    chain: &Chain,
+    seat: &mut ChainSeat,
+    call: &Call,
+    left: &mut u32,
+    pause: &mut P,
+) -> Straight
+    requires own { IsOwn chain.now seat.old }
+    requires serves { P.serves pause.old chain.now }
+    ensures tried { HasTriedAtHome chain.now call.now seat.old seat.new left.new result }
+    ensures left { left.new ≤ 1 }
+    ensures serves { P.serves pause.new chain.now }
+{
+    let top = seat.known_top();
+    let home = chain.shape().path(top, call.key()).slot(0);
+    *left = 1;
+    let word = chain.load_key_word_at(seat, home, Some(*call));
+    // First, whether it is the key's, as it is mostly.
+    if !word.is(call.key()) {
+        if !word.is_empty() {
+            return Straight::GoesOn;
+        }
+        if let Decision::Leave(reply) = decide(call, &None, &None) {
+            return Straight::Made(reply);
+        }
+        if top + 1 < chain.shape().generations() && chain.load_next(seat, top, None) {
+            return Straight::GoesOn;
+        }
+        match chain.claim_key_at(seat, home, call.key()) {
+            KeyState::Empty => {}
+            KeyState::Dead => return Straight::GoesOn,
+            KeyState::Claimed(other) => {
+                if other != call.key() {
+                    return Straight::GoesOn;
+                }
+            }
+        }
+    }
+    match try_at(chain, seat, call, home, left, pause) {
+        Attempt::Told(reply) => Straight::Made(reply),
+        Attempt::Overflow => Straight::Overflow,
+        Attempt::Lost => Straight::GoesOn,
+        Attempt::Copied(_) => Straight::GoesOn,
+    }
+}
 
 /// What a call comes to at its key's slot in a table.
 #[derive(Clone, Copy)]

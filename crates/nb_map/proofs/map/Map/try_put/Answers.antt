@@ -1,5 +1,11 @@
-use Rattle.nb_map.proofs.Away.{gone_on}
+use Rattle.std.proofs.Common.{rules}
+use Rattle.nb_map.proofs.Away.{goes_on, gone_on}
 use Rattle.nb_map.proofs.map.Map.try_put.Goals as goal
+use Rattle.nb_map.specs.NamedCalls.{put_of}
+use Rattle.nb_map.specs.inside.Waiting.{CantOverflow}
 
-pub returns-in-None : goal.returns-in-None
-returns-in-None c = gone_on c.in-None.ensures _ (rw c.answer.ensures c.try_put_general.ensures)
+pub returns : goal.returns
+returns c =
+    let sumless : CantOverflow (put_of c.args.key c.args.number) = search rules in
+    gone_on (goes_on _ _ _ _ _ _ _ sumless c.write_straight-told.ensures.tries c.in_default.not-Made) _
+    (rw c.answer.ensures c.try_put_general.ensures)

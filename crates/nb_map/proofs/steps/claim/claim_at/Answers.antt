@@ -1,4 +1,4 @@
-use Rattle.std.proofs.Common.{◌≡◌, ◌≢◌, ◌∙◌, ◌+◌, ◌<◌, suc, ap, subst, sym, arith, rules}
+use Rattle.std.proofs.Common.{◌≡◌, ◌≢◌, ◌∙◌, ◌+◌, ◌<◌, suc, ap, refl, subst, sym, arith, rules}
 use Rattle.std.proofs.lemmas.Bool.{eqb-false}
 use Rattle.nb_core.specs.History.{HasWay, key_of_call}
 use Rattle.nb_core.specs.Tables.{UpToDead, path_slot}
@@ -6,12 +6,13 @@ use Rattle.nb_core.specs.Plans.{limit_of, size_of}
 use Rattle.nb_core.specs.declared.states.KeyState.TheVariants.{Claimed, Dead}
 use Rattle.nb_table.specs.Chains.{seen_by}
 use Rattle.nb_copy.specs.Handing.{table_steps}
-use Rattle.nb_map.proofs.Claimed.{above-complete, claimed-empty, complete-next, dead-empty, made-claim, made-complete, way-to}
+use Rattle.nb_map.proofs.Claimed.{HasNoNext, above-complete, claimed-empty, complete-next, dead-empty, last-table, made-claim, made-complete, none-seen, way-to}
 use Rattle.nb_map.proofs.Made.{made-more, made-own, made-quiet, made-within}
 use Rattle.nb_map.proofs.Rungs.{at-stays}
 use Rattle.nb_map.proofs.Searched.{dead-next, others-more, table-within}
 use Rattle.nb_map.specs.Steps.{grow_steps}
 use Rattle.nb_map.proofs.steps.claim.claim_at.Goals as goal
+use Rattle.nb_map.proofs.steps.claim.claim_at.Goals.{After-key-key, else-rung-generations-via-then-rung-generations+else-load_next, else-rung-generations-via-else-rung-generations}
 use Rattle.nb_table.proofs.Theorems.{steps_add_up}
 
 pub returns-then-rung-limit_of-clause-visit : goal.returns-then-rung-limit_of-clause-visit
@@ -24,18 +25,14 @@ returns-then-rung-limit_of-clause-visit c =
           c.requires.at.table c.grow.ensures.complete.0 c.grow.ensures.complete.1,
     )
 
-pub complete-requires-clause-own : goal.complete-requires-clause-own
-complete-requires-clause-own c =
-    made-own c.args.chain.now c.requires.at.own (c.has_next.ensures.made c.args.call.now)
-
-pub returns-then-has_next-clause-visit : goal.returns-then-has_next-clause-visit
-returns-then-has_next-clause-visit c =
+pub returns-then-load_next-clause-visit : goal.returns-then-load_next-clause-visit
+returns-then-load_next-clause-visit c =
     let chain = c.args.chain.now in
     let p = chain.shape in
     let g = c.args.rung.g in
-    let looked = c.has_next.ensures.made c.args.call.now in
-    let next = table-within chain c.has_next.new.seat (made-own chain c.requires.at.own looked)
-    (suc g) (c.has_next.ensures.next c.if-has_next.true) in
+    let looked = made-quiet p c.args.call.now c.load_next.ensures.grows in
+    let next = table-within chain c.load_next.new.seat (made-own chain c.requires.at.own looked)
+    (suc g) (c.if-load_next.ensures.installed.0 refl) in
     let made = made-complete chain next c.requires.at.own looked c.complete.ensures.completed in
     let own = made-own chain c.requires.at.own made in
     let complete = c.complete.ensures.completed.complete in (
@@ -44,25 +41,46 @@ returns-then-has_next-clause-visit c =
           (complete-next chain c.complete.new.seat own g c.requires.at.table complete),
     )
 
+-- ---- there is no next table
+
+next :
+    (c : After-key-key)
+    → HasNoNext c.args.chain.now c.args.call.now c.args.seat.now c.else-rung-generations.seat
+    c.args.rung.g
+next c =
+    let chain = c.args.chain.now in
+    let call = c.args.call.now in
+    elim c.else-rung-generations.branch [
+      | else-rung-generations-via-then-rung-generations+else-load_next w ↦
+          none-seen chain call w.seat-is w.load_next.ensures.grows
+          w.if-load_next.ensures.installed.1
+      | else-rung-generations-via-else-rung-generations w ↦
+          last-table chain call w.seat-is c.requires.at.own (search rules)
+          w.if-rung-generations.false
+    ]
+
 pub claim_key-requires-clause-own : goal.claim_key-requires-clause-own
 claim_key-requires-clause-own c =
-    made-own c.args.chain.now c.requires.at.own (c.has_next.ensures.made c.args.call.now)
+    made-own c.args.chain.now c.requires.at.own
+    (next (goal.at.claim_key-requires-clause-own c).After-key-key).made
 
 pub claim_key-requires-clause-installed : goal.claim_key-requires-clause-installed
 claim_key-requires-clause-installed c =
-    let here = at-stays c.args.chain.now c.requires.at (c.has_next.ensures.made c.args.call.now) in
+    let here = at-stays c.args.chain.now c.requires.at
+    (next (goal.at.claim_key-requires-clause-installed c).After-key-key).made in
     here.reached.installed
 
 pub claim_key-requires-clause-way : goal.claim_key-requires-clause-way
 claim_key-requires-clause-way c =
+    let none = next (goal.at.claim_key-requires-clause-way c).After-key-key in
     let chain = c.args.chain.now in
     let p = chain.shape in
     let g = c.args.rung.g in
     let d = c.args.rung.from in
     let k = key_of_call c.args.call.now in
     let i = c.path_slot-i.result in
-    let seen = seen_by p c.has_next.new.seat in
-    let here = at-stays chain c.requires.at (c.has_next.ensures.made c.args.call.now) in
+    let seen = seen_by p c.else-rung-generations.seat in
+    let here = at-stays chain c.requires.at none.made in
     let within : d < limit_of p g = search rules in
     let at : path_slot p g k d ≡ i =
     ap (λ k. path_slot p g k d) (sym c.key-key.ensures) ∙ search rules in
@@ -72,25 +90,27 @@ claim_key-requires-clause-way c =
 
 pub returns-in-Empty-clause-claimed : goal.returns-in-Empty-clause-claimed
 returns-in-Empty-clause-claimed c =
+    let none = next (goal.at.returns-in-Empty-clause-claimed c).After-key-key in
     let chain = c.args.chain.now in
     let claimed = c.claim_key.ensures.won c.in-Empty.is in
     let in_table : c.path_slot-i.result < size_of chain.shape c.args.rung.g = search rules in (
-      made-more chain c.requires.at.own (c.has_next.ensures.made c.args.call.now)
+      made-more chain c.requires.at.own none.made
           (made-claim chain c.args.call.now c.key-key.result c.args.rung.g c.path_slot-i.result
           (sym c.key-key.ensures) c.requires.fills c.requires.at.table
-          (c.has_next.ensures.none c.if-has_next.false) claimed.0),
+          none.none claimed.0),
       (in_table, claimed.1 ∙ ap Claimed c.key-key.ensures),
     )
 
 pub returns-in-Dead-clause-visit : goal.returns-in-Dead-clause-visit
 returns-in-Dead-clause-visit c =
+    let none = next (goal.at.returns-in-Dead-clause-visit c).After-key-key in
     let chain = c.args.chain.now in
     let p = chain.shape in
     let g = c.args.rung.g in
     let d = c.args.rung.from in
     let i = c.path_slot-i.result in
     let lost = c.claim_key.ensures.lost (dead-empty c.claim_key.result c.in-Dead.is) in
-    let made = made-more chain c.requires.at.own (c.has_next.ensures.made c.args.call.now)
+    let made = made-more chain c.requires.at.own none.made
     (made-quiet p c.args.call.now lost.0) in
     let here = at-stays chain c.requires.at made in
     let at : path_slot p g (key_of_call c.args.call.now) d ≡ i =
@@ -110,18 +130,20 @@ returns-in-Dead-clause-visit c =
 
 pub returns-then-eq-clause-claimed : goal.returns-then-eq-clause-claimed
 returns-then-eq-clause-claimed c =
+    let none = next (goal.at.returns-then-eq-clause-claimed c).After-key-key in
     let chain = c.args.chain.now in
     let lost = c.claim_key.ensures.lost (claimed-empty c.claim_key.result c.in-Claimed.other
     c.in-Claimed.is) in
     let same : c.in-Claimed.other ≡ c.key-key.result = search rules in
     let in_table : c.path_slot-i.result < size_of chain.shape c.args.rung.g = search rules in (
-      made-more chain c.requires.at.own (c.has_next.ensures.made c.args.call.now)
+      made-more chain c.requires.at.own none.made
           (made-quiet chain.shape c.args.call.now lost.0),
       (in_table, lost.1 ∙ c.in-Claimed.is ∙ ap Claimed (same ∙ c.key-key.ensures)),
     )
 
 pub returns-else-eq-clause-claimed : goal.returns-else-eq-clause-claimed
 returns-else-eq-clause-claimed c =
+    let none = next (goal.at.returns-else-eq-clause-claimed c).After-key-key in
     let chain = c.args.chain.now in
     let p = chain.shape in
     let g = c.args.rung.g in
@@ -129,7 +151,7 @@ returns-else-eq-clause-claimed c =
     let k = key_of_call c.args.call.now in
     let lost = c.claim_key.ensures.lost (claimed-empty c.claim_key.result c.in-Claimed.other
     c.in-Claimed.is) in
-    let looked = c.has_next.ensures.made c.args.call.now in
+    let looked = none.made in
     let here = at-stays chain c.requires.at looked in
     let at : path_slot p g k d ≡ c.path_slot-i.result =
     ap (λ k. path_slot p g k d) (sym c.key-key.ensures) ∙ search rules in

@@ -2,7 +2,7 @@ use Rattle.std.proofs.Common.{◌≡◌, ◌-◌}
 use Rattle.nb_core.specs.Plans.{size_of}
 use Rattle.nb_map.proofs.Claimed.{HasProbed}
 use Rattle.nb_map.specs.inside.Climbing.{IsAt}
-use Rattle.nb_map.proofs.steps.claim.find_or_claim.Given as goal
+use Rattle.nb_map.proofs.steps.claim.find.Given as goal
 
 abbrev pub invariant-loop-i : goal.invariant-loop-i
 invariant-loop-i l = record {

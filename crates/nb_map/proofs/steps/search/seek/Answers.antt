@@ -7,7 +7,7 @@ use Rattle.nb_map.proofs.Made.{made-quiet, made-read, made-within}
 use Rattle.nb_map.proofs.Rungs.{at-stays}
 use Rattle.nb_map.proofs.Searched.{closed-above, made-then, made-unless, not-last, read-alone}
 use Rattle.nb_map.specs.Calling.{HasMade}
-use Rattle.nb_map.proofs.steps.climb.seek.Goals as goal
+use Rattle.nb_map.proofs.steps.search.seek.Goals as goal
 use Rattle.nb_table.proofs.Theorems.{steps_add_up}
 
 pub returns-in-Slot-clause-made : goal.returns-in-Slot-clause-made
