@@ -3,8 +3,8 @@
 //! An `atomic_table` has a word and a slot for each lane. The slot holds the lane's handle, and the word is 0 while that is at home, 1
 //! while it is out, and 2 where somebody sleeps until it comes home. A guest's token takes its handle by a compare-exchange of 0, calls,
 //! and swaps 0 in; where that finds 2, it wakes one sleeper. Who renews takes all lanes in order, makes one whole handle of them, renews
-//! it, parts it, and deals the handles. A guest that makes no call holds up nobody. A token is private, and goes back into a guest only
-//! when it has no lane: so no lane is lost.
+//! it, parts it, and deals the handles; who asks for the size counts in its place. A guest that makes no call holds up nobody. A token is
+//! private, and goes back into a guest only when it has no lane: so no lane is lost.
 //!
 //! The rule (`IsOneLog` in `specs/Shared.antt`): there is one map, with its epoch, and each handle at home is its lane's, of this map. In
 //! each lane a log is current: what the handle at home knows, or what it knew when it was taken. What the lane's guest has seen goes on to
