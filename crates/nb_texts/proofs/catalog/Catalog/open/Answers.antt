@@ -18,5 +18,5 @@ returns-clause-rest c =
           (index-none keys (held handle.seat));
       room =
           subst (λ p. HasRoomFor p c.min-room.result) (sym c.in_ok-handle.ensures.made.shape)
-          c.shape_for.ensures;
+          c.shape_for.ensures.room;
     }
