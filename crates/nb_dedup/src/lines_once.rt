@@ -45,7 +45,7 @@ where
         → IfSome plan.limit (λ limit. IfSome (I.remaining reader.old) (λ input.
         LinesMayNotFit limit input printed.taken.lines printed.catalog))) }
 {
-    let mut catalog = Catalog::open(alloc, plan.hashing, plan.first_room())?;
+    let mut catalog = Catalog::open(alloc, plan.hashing, plan.first_room(), plan.limit)?;
     let mut source = LineSource::new(alloc, plan.ahead())?;
     let mut taken = Taken::NOTHING;
     let mut done = Done::NOTHING;

@@ -50,7 +50,7 @@ where
 {
     let mut tally = LineTally::new(
         alloc,
-        Catalog::open(alloc, plan.hashing, plan.first_room())?,
+        Catalog::open(alloc, plan.hashing, plan.first_room(), plan.limit)?,
     );
     let mut source = LineSource::new(alloc, plan.ahead())?;
     let mut fields = Vec::new(alloc);

@@ -1,12 +1,15 @@
 //! A catalog: the distinct lines of a stream, found by their hashes in a map.
-ghost use Rattle.std.specs.Prelude.{◌≡◌, ◌+◌, ◌≤◌, ◌<◌, ◌↔◌, ◌++◌, [], ◌∷◌, ℕ, All, IfOk, IsTrue, List, MatchOption, None, OnOk, Some, drop, length, map, min, slice_get, sum_by};
+ghost use Rattle.std.specs.Prelude.{◌≡◌, ◌+◌, ◌^◌, ◌≤◌, ◌<◌, ◌↔◌, ◌⊎◌, ◌++◌, [], ◌∷◌, ℕ, All, IfOk, IsTrue, List, MatchOption, None, OnErr, OnOk, Some, drop, length, map, min, slice_get, sum_by};
 ghost use Rattle.std.specs.Bool.{OnFalse, OnTrue};
+ghost use Rattle.nb_core.specs.Meaning.{IsCrowded};
 ghost use Rattle.nb_core.specs.Plans.{HasRoomFor};
 ghost use Rattle.nb_core.specs.declared.shapes.TheConstants.{MOST_KEYS};
-ghost use Rattle.nb_map.specs.Handles.{IsSameMap, KeepsRest, all_seats, handle_on, seats_of};
+ghost use Rattle.nb_lines.specs.declared.faults.ProgramFault.TheVariants as fault;
+ghost use Rattle.nb_map.specs.Handles.{IsSameMap, IsWhole, KeepsRest, all_seats, handle_on, seats_of};
 ghost use Rattle.nb_map.specs.Logs.{HasFound};
 ghost use Rattle.nb_map.specs.NamedCalls.{put_if_absent_of};
 ghost use Rattle.nb_map.specs.OneSeat.{held};
+ghost use Rattle.nb_map.specs.Renewing.{HasTooMany};
 ghost use Rattle.nb_map.specs.Settling.{HaveSettled};
 ghost use Rattle.nb_texts.specs.Catalogs.{HaveOneLog};
 ghost use Rattle.nb_texts.specs.Clues.{AreCluesTo, ArePartedFrom, IsClueTo};
@@ -57,15 +60,23 @@ impl Catalog {
     ghost use Rattle.nb_texts.specs.Catalogs.{IsAtRest};
     ghost use Rattle.nb_texts.specs.Memory.{TellsWhetherFits};
 
-    /// A catalog without lines, whose map has room for so many at first.
-    pub fn open(alloc: Global, hashing: Hashing, room: usize) -> Result<Catalog, ProgramFault>
+    /// A catalog without lines, whose map has room for so many at first. Under a limit it asks for the
+    /// addresses of all lines that it may come to have; memory is taken as they come.
+    pub fn open(
+        alloc: Global,
+        hashing: Hashing,
+        room: usize,
+        limit: Option<MemoryLimit>,
+    ) -> Result<Catalog, ProgramFault>
         ensures rest { IfOk result IsAtRest }
         ensures empty { IfOk result (λ catalog. catalog.texts ≡ []) }
+        ensures hashing { IfOk result (λ catalog. catalog.hashing ≡ hashing) }
+        ensures room { IfOk result (λ catalog. catalog.room ≡ min room MOST_KEYS) }
     {
         let room = room.min(MOST_KEYS);
         let handle = Handle::open(alloc, shape_for(room))?;
         Ok(Catalog {
-            texts: Texts::new(alloc),
+            texts: texts_for(alloc, limit),
             handle,
             hashing,
             room,
@@ -224,6 +235,18 @@ impl Catalog {
     }
 }
 
+/// No texts, but under a limit with room for as many as it lets be kept, if that isn't refused. So none
+/// of them is ever twice in memory, as where it moves.
+fn texts_for(alloc: Global, limit: Option<MemoryLimit>) -> Texts
+    ensures { result ≡ [] }
+{
+    let mut texts = Texts::new(alloc);
+    if let Some(limit) = limit {
+        let _ = texts.reserve(limit.bytes, limit.bytes / CATALOG_EACH);
+    }
+    texts
+}
+
 /// The shape of a map with room for so many keys.
 fn shape_for(room: usize) -> Shape
     requires { room ≤ MOST_KEYS }
@@ -272,6 +295,8 @@ fn renew(alloc: Global, handle: &mut Handle, shape: Shape) -> Result<(), Program
     ensures logs { OnOk result (HaveOneLog handle.new) }
     ensures same { OnOk result (held handle.new.seat ≡ held handle.old.seat) }
     ensures shape { OnOk result (handle.new.map.chain.shape ≡ shape) }
+    ensures full { result ≡ Err fault.FullOfLines
+        → HasTooMany shape handle.old ⊎ (IsWhole handle.old → ⊥) }
 {
     match handle.renew(alloc, shape) {
         Ok(()) => Ok(()),
@@ -429,6 +454,8 @@ fn put<R: Wait>(
     ensures rest { KeepsRest handle.old handle.new }
     ensures found { IfOk result (HasFound (put_if_absent_of key number)
         handle.old.seat handle.new.seat) }
+    ensures full { OnErr result (IsCrowded handle.old.map.chain.shape handle.new.seat.chain.seen
+        key) }
 {
     match handle.put_if_absent(rt, key, number) {
         Ok(found) => Ok(found),
@@ -438,7 +465,8 @@ fn put<R: Wait>(
 
 /// A place as a value number.
 fn number_of(place: usize) -> Result<Num, ProgramFault>
-    ensures { IfOk result (λ number. number ≡ place) }
+    ensures same { IfOk result (λ number. number ≡ place) }
+    ensures full { OnErr result (2 ^ 60 ≤ place) }
 {
     match Num::new(place as u64) {
         Ok(number) => Ok(number),

@@ -1,5 +1,6 @@
 //! How much memory is kept for lines.
-ghost use Rattle.std.specs.Prelude.{◌≡◌, ◌+◌, ◌*◌, ◌<◌, ◌↔◌, IfOk, IsOk, IsTrue, MatchOption};
+ghost use Rattle.std.specs.Prelude.{◌≡◌, ◌+◌, ◌*◌, ◌^◌, ◌<◌, ◌≤◌, ◌↔◌, IfErr, IfOk, IsOk, IsTrue, MatchOption, OnErr};
+ghost use Rattle.nb_lines.specs.declared.faults.ProgramFault.TheVariants as fault;
 ghost use Rattle.nb_texts.specs.Memory.{bytes_of_load};
 
 use nb_lines::ProgramFault;
@@ -38,8 +39,9 @@ impl Taken {
 
     /// So many lines more.
     pub fn with(self, lines: usize) -> Result<Taken, ProgramFault>
-        ensures { IfOk result (λ taken. (taken.lines ≡ self.lines + lines)
+        ensures more { IfOk result (λ taken. (taken.lines ≡ self.lines + lines)
             × (taken.is_whole ≡ self.is_whole)) }
+        ensures range { OnErr result (2 ^ 64 ≤ self.lines + lines) }
     {
         match self.lines.checked_add(lines as u64) {
             Some(lines) => Ok(Taken { lines, ..self }),
@@ -49,7 +51,8 @@ impl Taken {
 
     /// The fault that tells that memory ended before the input did, if it did.
     pub fn ended(self) -> Result<(), ProgramFault>
-        ensures { IsOk result ↔ IsTrue self.is_whole }
+        ensures whole { IsOk result ↔ IsTrue self.is_whole }
+        ensures part { IfErr result (λ told. told ≡ fault.MemoryLimit self.lines) }
     {
         if self.is_whole {
             Ok(())

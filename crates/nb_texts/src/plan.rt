@@ -1,4 +1,5 @@
 //! How a program takes the lines of an input.
+ghost use Rattle.std.specs.Prelude.{◌≡◌, ◌/◌, ◌≤◌, MatchOption, min};
 
 use crate::hashing::Hashing;
 use crate::memory::MemoryLimit;
@@ -29,7 +30,10 @@ pub struct LinePlan {
 
 impl LinePlan {
     /// How many bytes are asked for at once.
-    pub fn ahead(&self) -> usize {
+    pub fn ahead(&self) -> usize
+        ensures least { 1 ≤ result }
+        ensures most { result ≤ AHEAD }
+    {
         match self.limit {
             Some(limit) => AHEAD.min(limit.bytes / BYTES_OF_AHEAD).max(1),
             None => AHEAD,
@@ -37,7 +41,10 @@ impl LinePlan {
     }
 
     /// For how many different lines there is room at first under the limit.
-    pub fn first_room(&self) -> usize {
+    pub fn first_room(&self) -> usize
+        ensures { MatchOption self.now.limit (result ≡ self.now.room)
+            (λ limit. result ≡ min self.now.room (limit.bytes / BYTES_OF_ROOM)) }
+    {
         match self.limit {
             Some(limit) => self.room.min(limit.bytes / BYTES_OF_ROOM),
             None => self.room,

@@ -30,7 +30,8 @@ pub struct LineSource {
 impl LineSource {
     /// Nothing was read. So many bytes will be asked for at once, 1 at least.
     pub fn new(alloc: Global, ahead: usize) -> Result<LineSource, ProgramFault>
-        ensures { IfOk result (λ source. source.rest.items ≡ []) }
+        ensures rest { IfOk result (λ source. source.rest.items ≡ []) }
+        ensures room { IfOk result (λ source. length source.room.items ≡ ahead) }
     {
         Ok(LineSource {
             block: Vec::new(alloc),

@@ -53,7 +53,7 @@ impl LineTally {
         ensures { IfOk result (λ rows.
             AreRowsOf self.now.catalog.texts self.now.counts.items rows.items) }
     {
-        let mut rows = Vec::new(alloc);
+        let mut rows = Vec::with_capacity(alloc, self.counts.len())?;
         for (place, times) in self.counts.iter().enumerate() {
             let Some(line) = self.catalog.get(place) else {
                 unreachable!();

@@ -55,6 +55,15 @@ impl Texts {
         self.bytes.len()
     }
 
+    /// Takes room for so many bytes, and so many texts, so that those that come don't move the others.
+    pub fn reserve(&mut self, bytes: usize, texts: usize) -> Result<(), OutOfMemory>
+        ensures { self.new ≡ self.old }
+    {
+        self.bytes.reserve(bytes)?;
+        self.places.reserve(texts)?;
+        Ok(())
+    }
+
     /// Puts a text behind the others.
     pub fn push(&mut self, text: &[u8]) -> Result<(), OutOfMemory>
         ensures put { OnOk result (self.new ≡ self.old ++ text.now ∷ []) }

@@ -15,7 +15,7 @@ loop-init g c =
       c.in_ok-catalog.ensures.rest,
       underway-begun (g.I.Read.remaining c.args.reader.now) (g.W.Write.contents c.args.writer.now)
           catalog.texts c.in_ok-source.source.rest.items c.in_ok-catalog.ensures.empty
-          c.in_ok-source.ensures,
+          c.in_ok-source.ensures.rest,
       kept-none c.args.plan.limit catalog,
       refl,
     )
@@ -81,7 +81,7 @@ loop-preserved g c =
     let more : c.in_ok-taken.taken.lines ≡ now.taken.lines + length (lines_in block)
     = omega (
       arith,
-      c.in_ok-taken.ensures.0,
+      c.in_ok-taken.ensures.more.0,
       c.len.ensures,
       c.in_ok-places.places.ok.0,
       many,
@@ -103,5 +103,5 @@ loop-preserved g c =
           (subst (TellsWhetherFits c.args.plan.limit made load) fits same.fits) few
           (ap length (c.block.ensures ∙ sym c.block-in-loop.ensures)) c.in_ok-places.ensures.lines
           c.in_ok-places.ensures.map,
-      c.in_ok-taken.ensures.1 ∙ now.invariant.3,
+      c.in_ok-taken.ensures.more.1 ∙ now.invariant.3,
     )

@@ -21,7 +21,7 @@ loop-init g c =
       underway-begun c.args.column (g.I.Read.remaining c.args.reader.now) tally.catalog.texts tally.counts.items
           c.in_ok-source.source.rest.items
           (ap (λ (catalog : Catalog). catalog.texts) c.new-tally.ensures.catalog ∙ opened.empty)
-          c.new-tally.ensures.counts c.in_ok-source.ensures,
+          c.new-tally.ensures.counts c.in_ok-source.ensures.rest,
       kept-none c.args.plan.limit tally.catalog,
       refl,
     )
@@ -94,7 +94,7 @@ loop-preserved g c =
       c.saturating_add.ensures,
     ) in
     let more : c.in_ok-taken.taken.lines ≡ now.taken.lines + length (counted_of c.args.column (lines_in block))
-    = omega (arith, c.in_ok-taken.ensures.0, c.in_ok-lines.ensures.lines, ap length are) in
+    = omega (arith, c.in_ok-taken.ensures.more.0, c.in_ok-lines.ensures.lines, ap length are) in
     let told : (lines : List (List ℕ)) → IsTally lines made.catalog.texts made.counts.items
     → IsTally (lines ++ counted_of c.args.column (lines_in block)) tally.catalog.texts tally.counts.items
     = λ lines told. subst (λ more. IsTally (lines ++ more) tally.catalog.texts tally.counts.items) are
@@ -110,5 +110,5 @@ loop-preserved g c =
       kept-more c.args.plan.limit c.in_ok-taken.taken.lines made.catalog tally.catalog load counted
           (subst (TellsWhetherFits c.args.plan.limit made.catalog load) fits same.fits) few refl
           c.in_ok-lines.ensures.texts c.in_ok-lines.ensures.map,
-      c.in_ok-taken.ensures.1 ∙ now.invariant.3,
+      c.in_ok-taken.ensures.more.1 ∙ now.invariant.3,
     )

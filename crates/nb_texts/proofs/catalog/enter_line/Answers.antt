@@ -26,7 +26,7 @@ returns-in-None-clause-entered g c =
     let found : P (keys line now.tries) None
     = subst₂ P (c.key_after.ensures ∙ ap (λ hash. key_after hash now.tries) c.requires) c.in-None.is
     c.in_ok-put.ensures.found in
-    let last : c.in_ok-number.number ≡ length texts = c.in_ok-number.ensures ∙ c.len-place.ensures in
+    let last : c.in_ok-number.number ≡ length texts = c.in_ok-number.ensures.same ∙ c.len-place.ensures in
     let pushed : texts ++ line ∷ [] ≡ c.push.new.self
     = ap (λ texts. texts ++ line ∷ []) (sym now.invariant.1) ∙ sym c.in_ok-push-in-None.ensures.put in
     subst (λ texts'. HasEntered keys c.args.handle.now.seat c.put.new.handle.seat texts texts' (line ∷ []))
