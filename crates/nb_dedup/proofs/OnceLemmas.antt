@@ -1,61 +1,42 @@
 -- Each line of an input is written where it comes first.
-use Rattle.std.proofs.Common.{◌≡◌, ◌≢◌, ◌∙◌, ℕ, Bool, true, false, List, [], ◌∷◌, ◌++◌, None, Option, Some, IfSome, ap, append-nil, arith, drop, length, refl, subst, sym}
+use Rattle.std.proofs.Common.{◌≡◌, ◌∙◌, ◌==◌, ◌+◌, ◌-◌, ◌^◌, ◌≤◌, ◌<◌, ℕ, Bool, false, List, [], ◌∷◌, ◌++◌, None, Option, Some, IfSome, ap, arith, drop, length, length-append, refl, subst, sym, take}
 use Rattle.std.proofs.KnownBytes.{Appends-nil, Appends-trans}
 use Rattle.std.proofs.lemmas.List.{drop_at}
 use Rattle.std.proofs.lemmas.List.Concat.{flat_map-append}
-use Rattle.std.specs.Io.KnownBytes.{Appends, Keeps}
-use Rattle.nb_texts.proofs.Theorems.{with-append, with-grows}
+use Rattle.std.specs.Io.KnownBytes.{Appends}
+use Rattle.std.specs.Prelude.{count_by, min}
+use Rattle.nb_texts.proofs.Theorems.{IsReading, lines-few, lines-within, on-known, reading-begun, reading-ended, reading-first, reading-more, reading-next, with-append, with-grows}
 use Rattle.nb_texts.specs.Lines.{distinct, lines_in, text_of_lines, with_new_lines}
+use Rattle.nb_texts.specs.Memory.{TellsWhetherFits}
 use Rattle.nb_texts.specs.Sources.{HasCut}
+use Rattle.nb_texts.specs.declared.catalog.Catalog.{Catalog}
+use Rattle.nb_texts.specs.declared.memory.Load.{Load}
+use Rattle.nb_texts.specs.declared.memory.MemoryLimit.{MemoryLimit}
+use Rattle.nb_dedup.specs.Limits.{HasPrintedFirst, LinesMayNotFit}
 
--- the distinct lines of the input are those so far, with the lines of what is left
-abbrev pub IsUnderway : (known now : Option (List ℕ)) → (texts : List (List ℕ)) → (rest : List ℕ) → Type 0
-IsUnderway known now texts rest =
-    IfSome known (λ input. (left : List ℕ) × (now ≡ Some left)
-    × (distinct (lines_in input) ≡ with_new_lines texts (lines_in (rest ++ left))))
+-- These lines were taken, which are so many, and their distinct ones were written; behind them comes
+-- what is left of the input.
+pub record IsUnderway (known now before after : Option (List ℕ)) (taken : ℕ) (texts : List (List ℕ))
+    (rest : List ℕ) : Type 0 where
+  pub lines : List (List ℕ)
+  pub many : taken ≡ length lines
+  pub are : texts ≡ distinct lines
+  pub wrote : Appends before after (text_of_lines texts)
+  pub reading : IsReading known now lines rest
 
-pub underway-begun : (known : Option (List ℕ)) → IsUnderway known known [] []
-underway-begun None = tt
-underway-begun (Some input) = (input, refl, refl)
+pub underway-begun :
+    (known before : Option (List ℕ)) (texts : List (List ℕ)) (rest : List ℕ) → texts ≡ []
+    → rest ≡ [] → IsUnderway known known before before 0 texts rest
+underway-begun known before texts rest none empty = record {
+  lines = [];
+  many = refl;
+  are = none;
+  wrote =
+      subst (λ texts. Appends before before (text_of_lines texts)) (sym none) (Appends-nil before);
+  reading = reading-begun known rest empty;
+}
 
-pub underway-more :
-    (known now next : Option (List ℕ)) (texts texts' : List (List ℕ)) (rest rest' block : List ℕ)
-    (some : Bool) → IsUnderway known now texts rest → HasCut some now next rest block rest'
-    → texts' ≡ with_new_lines texts (lines_in block) → IsUnderway known next texts' rest'
-underway-more None now next texts texts' rest rest' block some under cut entered = tt
-underway-more (Some input) now next texts texts' rest rest' block some (left, is, told) cut entered =
-    let here = subst (λ now. IfSome now (λ input. (left : List ℕ) × (next ≡ Some left)
-    × (lines_in (rest ++ input) ≡ lines_in block ++ lines_in (rest' ++ left)))) is cut.cut in (
-      here.0,
-      here.1,
-      told ∙ ap (with_new_lines texts) here.2
-          ∙ with-append texts (lines_in block) (lines_in (rest' ++ here.0))
-          ∙ ap (λ texts. with_new_lines texts (lines_in (rest' ++ here.0))) (sym entered),
-    )
-
--- nothing is left: the texts are the distinct lines, and were written
-pub underway-ended :
-    (known now next before after : Option (List ℕ)) (texts : List (List ℕ)) (rest rest' block : List ℕ)
-    (some : Bool) → IsUnderway known now texts rest → HasCut some now next rest block rest'
-    → some ≡ false → Appends before after (text_of_lines texts)
-    → IfSome known (λ input. Appends before after (text_of_lines (distinct (lines_in input))))
-underway-ended None now next before after texts rest rest' block some under cut ended written = tt
-underway-ended (Some input) now next before after texts rest rest' block some (left, is, told) cut ended
-    written =
-    let none : rest ++ left ≡ []
-    = subst (λ now. IfSome now (λ input. rest ++ input ≡ [])) is (cut.ended ended) in
-    let all : texts ≡ distinct (lines_in input)
-    = sym (told ∙ ap (λ bytes. with_new_lines texts (lines_in bytes)) none) in
-    subst (λ texts. Appends before after (text_of_lines texts)) all written
-
--- ---- what is written
-
-pub written-none : (known : Option (List ℕ)) (texts : List (List ℕ)) → texts ≡ []
-    → Appends known known (text_of_lines texts)
-written-none known texts none =
-    subst (λ texts. Appends known known (text_of_lines texts)) (sym none) (Appends-nil known)
-
-pub written-more :
+written-more :
     (before now next : Option (List ℕ)) (texts texts' lines : List (List ℕ)) (first : ℕ)
     → Appends before now (text_of_lines texts) → Appends now next (text_of_lines (drop first texts'))
     → first ≡ length texts → texts' ≡ with_new_lines texts lines
@@ -72,3 +53,89 @@ written-more before now next texts texts' lines first written more is entered =
     ∙ ap text_of_lines (sym (entered ∙ grown)) in
     subst (Appends before next) all
     (Appends-trans before now next (text_of_lines texts) (text_of_lines (drop first texts')) written more)
+
+pub underway-more :
+    (known now next before after last : Option (List ℕ)) (taken taken' first : ℕ)
+    (texts texts' : List (List ℕ)) (rest rest' block : List ℕ) (some : Bool)
+    → IsUnderway known now before after taken texts rest → HasCut some now next rest block rest'
+    → taken' ≡ taken + length (lines_in block) → first ≡ length texts
+    → texts' ≡ with_new_lines texts (lines_in block)
+    → Appends after last (text_of_lines (drop first texts'))
+    → IsUnderway known next before last taken' texts' rest'
+underway-more known now next before after last taken taken' first texts texts' rest rest' block some under
+    cut more is entered wrote =
+    record {
+      lines = under.lines ++ lines_in block;
+      many = omega (arith, more, under.many, length-append under.lines (lines_in block));
+      are =
+          entered ∙ ap (λ texts. with_new_lines texts (lines_in block)) under.are
+          ∙ sym (with-append [] under.lines (lines_in block));
+      wrote =
+          written-more before after last texts texts' (lines_in block) first under.wrote wrote is entered;
+      reading = reading-more known now next under.lines rest rest' block some under.reading cut;
+    }
+
+-- nothing is left
+pub underway-ended :
+    (known now next before after : Option (List ℕ)) (taken : ℕ) (texts : List (List ℕ))
+    (rest rest' block : List ℕ) (some : Bool) → IsUnderway known now before after taken texts rest
+    → HasCut some now next rest block rest' → some ≡ false
+    → IfSome known (λ input. Appends before after (text_of_lines (distinct (lines_in input))))
+underway-ended known now next before after taken texts rest rest' block some under cut ended =
+    on-known known (λ input. under.lines ≡ lines_in input)
+    (λ input. Appends before after (text_of_lines (distinct (lines_in input))))
+    (λ input all. subst (λ texts. Appends before after (text_of_lines texts))
+    (under.are ∙ ap distinct all) under.wrote)
+    (reading-ended known now next under.lines rest rest' block some under.reading cut ended)
+
+-- of so many of the first lines
+pub underway-first :
+    (known now before after : Option (List ℕ)) (taken : ℕ) (texts : List (List ℕ)) (rest : List ℕ)
+    → IsUnderway known now before after taken texts rest
+    → IfSome known (λ input. HasPrintedFirst input taken before after)
+underway-first known now before after taken texts rest under =
+    on-known known
+    (λ input. (taken ≤ length (lines_in input)) × (take taken (lines_in input) ≡ under.lines))
+    (λ input. HasPrintedFirst input taken before after)
+    (λ input is. record {
+      within = is.0;
+      wrote =
+          subst (λ texts. Appends before after (text_of_lines texts))
+          (under.are ∙ ap distinct (sym is.1)) under.wrote;
+    })
+    (reading-first known now under.lines rest taken under.many under.reading)
+
+-- ---- a limit
+
+-- there are no more lines in a block than newlines, and one
+pub lines-most :
+    (block : List ℕ) (newlines : ℕ) → newlines ≡ count_by (λ byte. byte == 10) block
+    → length block < 2 ^ 64 → length (lines_in block) ≤ min (newlines + 1) (2 ^ 64 - 1)
+lines-most block newlines is fits = omega (arith, lines-few block, lines-within block, is, fits)
+
+-- a block might not fit
+pub limited :
+    (limit : Option MemoryLimit) (known now next before after : Option (List ℕ)) (taken : ℕ)
+    (texts : List (List ℕ)) (rest rest' block : List ℕ) (some : Bool) (load : Load) (catalog : Catalog)
+    → IsUnderway known now before after taken texts rest → HasCut some now next rest block rest'
+    → load.lines ≤ count_by (λ byte. byte == 10) block + 1 → load.bytes ≡ length block
+    → TellsWhetherFits limit catalog load false
+    → IfSome limit (λ limit. IfSome known (λ input. LinesMayNotFit limit input taken catalog))
+limited None known now next before after taken texts rest rest' block some load catalog under cut few bytes
+    fits =
+    tt
+limited (Some limit) known now next before after taken texts rest rest' block some load catalog under cut
+    few bytes fits =
+    on-known known
+    (λ input. (behind : List ℕ) × (drop taken (lines_in input) ≡ lines_in block ++ lines_in behind))
+    (λ input. LinesMayNotFit limit input taken catalog)
+    (λ input next. record {
+      block = block;
+      rest = next.0;
+      next = next.1;
+      load = load;
+      few = few;
+      bytes = bytes;
+      over = fits;
+    })
+    (reading-next known now next under.lines rest rest' block some taken under.many under.reading cut)

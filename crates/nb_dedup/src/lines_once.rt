@@ -1,44 +1,72 @@
 //! Lines, each printed where it comes first.
 ghost use Rattle.std.specs.Io.KnownBytes.{Appends};
-ghost use Rattle.std.specs.Prelude.{IfSome, OnOk, drop};
+ghost use Rattle.std.specs.Prelude.{◌≡◌, IfOk, IfSome, IsTrue, None, OnOk, drop, false};
 ghost use Rattle.nb_texts.specs.Lines.{distinct, lines_in, text_of_lines};
+ghost use Rattle.nb_texts.specs.Memory.{KeepsTo};
+ghost use Rattle.nb_dedup.specs.Limits.{HasPrintedFirst, LinesMayNotFit};
 
 use nb_lines::{Done, ProgramFault};
-use nb_texts::{Catalog, LinePlan, LineSource};
+use nb_texts::{Catalog, LinePlan, LineSource, Load, Taken};
 use std::alloc::Global;
 use std::io::{Read, Write};
 use std::sync::Wait;
 use std::thread::Threads;
 
-/// Writes each line of an input where it comes first, and no line twice.
+/// The lines of an input that were printed.
+#[derive(Drop)]
+pub(crate) struct Printed {
+    pub(crate) catalog: Catalog,
+    pub(crate) taken: Taken,
+}
+
+/// Writes each line of an input where it comes first, and no line twice. Under a limit it ends before a
+/// block of lines that might not fit.
 pub(crate) fn print_once<R, I, W>(
     rt: &R,
     alloc: Global,
     plan: LinePlan,
     reader: &mut I,
     writer: &mut W,
-) -> Result<(), ProgramFault>
+) -> Result<Printed, ProgramFault>
 where
     R: Threads + Sync + Wait + Eprint,
     I: Read,
     W: Write,
-    ensures { OnOk result (IfSome (I.remaining reader.old) (λ input.
+    ensures whole { IfOk result (λ printed. IsTrue printed.taken.is_whole
+        → IfSome (I.remaining reader.old) (λ input.
         Appends (W.contents writer.old) (W.contents writer.new)
         (text_of_lines (distinct (lines_in input))))) }
+    ensures first { IfOk result (λ printed. IfSome (I.remaining reader.old) (λ input.
+        HasPrintedFirst input printed.taken.lines (W.contents writer.old) (W.contents writer.new))) }
+    ensures unlimited { plan.limit ≡ None → IfOk result (λ printed. IsTrue printed.taken.is_whole) }
+    ensures kept { IfOk result (λ printed.
+        KeepsTo plan.limit printed.taken.lines printed.catalog) }
+    ensures full { IfOk result (λ printed. printed.taken.is_whole ≡ false
+        → IfSome plan.limit (λ limit. IfSome (I.remaining reader.old) (λ input.
+        LinesMayNotFit limit input printed.taken.lines printed.catalog))) }
 {
-    let mut catalog = Catalog::open(alloc, plan.hashing, plan.room)?;
-    let mut source = LineSource::new(alloc)?;
+    let mut catalog = Catalog::open(alloc, plan.hashing, plan.first_room(), plan.limit)?;
+    let mut source = LineSource::new(alloc, plan.ahead())?;
+    let mut taken = Taken::NOTHING;
     let mut done = Done::NOTHING;
     for _ in 0..u64::MAX {
         if !source.refill(reader)? {
-            return Ok(());
+            taken.is_whole = true;
+            return Ok(Printed { catalog, taken });
+        }
+        let newlines = source.newlines();
+        let load = Load {
+            lines: newlines.saturating_add(1),
+            bytes: source.block().len(),
+        };
+        if !catalog.make_room_within(alloc, plan.limit, load)? {
+            return Ok(Printed { catalog, taken });
         }
         let known = catalog.len();
-        let lines = source.newlines();
-        catalog.make_room(alloc, lines.saturating_add(1))?;
-        let _places = catalog.enter(rt, alloc, source.block(), plan.workers)?;
+        let places = catalog.enter(rt, alloc, source.block(), plan.workers)?;
         write_from(alloc, &catalog, known, writer)?;
-        done = source.done_with(done, lines);
+        taken = taken.with(places.len())?;
+        done = source.done_with(done, newlines);
         plan.progress.tell_done(rt, done);
     }
     Err(ProgramFault::Read)

@@ -2,9 +2,10 @@
 
 use nb_core::Shape;
 use nb_lines::{
-    Argument, CommandLine, Form, Given, MANY_KEYS, NumberWord, ProgramFault, WORKERS, WordsFault,
-    wrong_word,
+    Argument, CommandLine, Form, Given, MANY_KEYS, MEMORY, NumberWord, ProgramFault, WORKERS,
+    WordsFault, wrong_word,
 };
+use nb_texts::{CATALOG_EACH, MemoryLimit};
 use std::alloc::Global;
 
 /// What is asked for.
@@ -27,6 +28,8 @@ pub(crate) struct LineOptions {
     pub(crate) seed: Option<u64>,
     /// How many bits of a hash count.
     pub(crate) bits: u32,
+    /// How much may be kept for lines, if that is limited.
+    pub(crate) limit: Option<MemoryLimit>,
 }
 
 /// How the jobs are to be taken and printed.
@@ -68,13 +71,18 @@ A line is any bytes up to a newline. Each is printed where it comes first, as
 soon as it was read, and never again: the output is the same in every run. There
 is no end to what may come but that of memory.
 
+With --memory it stops before lines that may not fit, and says after how many it
+stopped. For each different line it keeps the bytes of the line and 16 more, and
+the map has some 24 to 96; a block of input, 1 MiB or a line, comes on top.
+
 With --numbers each line is one number from 0 to 18446744073709551613, in digits
 only. It ends with a newline, or with a carriage return and a newline. The numbers
 are printed at the end, in ascending order, like sort -nu. Only the workers that
 --who prints can differ from run to run. With one worker, they are the same too.
 
 Exit status: 0 done; 1 a read or a write failed; 2 a line is not such a number;
-3 bad usage; 4 out of memory; 5 more different numbers than there is room for.
+3 bad usage; 4 out of memory; 5 more different numbers than there is room for;
+7 stopped by --memory.
 
 Example: printf 'b\\na\\nb\\n' | nb_dedup
 b
@@ -107,6 +115,11 @@ pub(crate) const LINE: CommandLine = CommandLine {
             help: "Make room for N different lines at first, or for at least N different numbers in all; 1 to 178956970",
         },
         Argument {
+            form: Form::Number(MEMORY, "BYTES"),
+            default: None,
+            help: "Keep no more than so many bytes for lines, and stop before some that may not fit; 65536 to 1152921504606846975",
+        },
+        Argument {
             form: Form::Number(SEED, "N"),
             default: None,
             help: "Hash lines by the key N, and not by one from the machine's randomness; 0 to 18446744073709551615",
@@ -127,11 +140,15 @@ pub(crate) fn task_of(alloc: Global, given: &Given) -> Result<Task, WordsFault> 
     let bits = BITS.find(alloc, given)?.unwrap_or(64) as u32;
     let tells_who = given.is_set("--who");
     if given.is_set("--numbers") {
-        return Ok(Task::Numbers(Options {
-            workers,
-            tells_who,
-            keys,
-        }));
+        return numbers_of(
+            alloc,
+            given,
+            Options {
+                workers,
+                tells_who,
+                keys,
+            },
+        );
     }
     if tells_who {
         let complaint = "no line is one worker's";
@@ -142,5 +159,25 @@ pub(crate) fn task_of(alloc: Global, given: &Given) -> Result<Task, WordsFault> 
         room: keys,
         seed,
         bits,
+        limit: limit_of(alloc, given)?,
     }))
+}
+
+/// To take numbers, of which it isn't asked how much is kept.
+fn numbers_of(alloc: Global, given: &Given, options: Options) -> Result<Task, WordsFault> {
+    match given.text(MEMORY.name) {
+        Some(word) => Err(wrong_word(alloc, MEMORY.name, word, "not with --numbers")),
+        None => Ok(Task::Numbers(options)),
+    }
+}
+
+/// How much may be kept for lines, if that is limited.
+fn limit_of(alloc: Global, given: &Given) -> Result<Option<MemoryLimit>, WordsFault> {
+    match MEMORY.find(alloc, given)? {
+        Some(bytes) => Ok(Some(MemoryLimit {
+            bytes: bytes as usize,
+            each: CATALOG_EACH,
+        })),
+        None => Ok(None),
+    }
 }

@@ -40,13 +40,14 @@ where
         hashing: Hashing::new(seed_of(rt, options)?, options.bits),
         workers: options.workers,
         room: options.room,
+        limit: options.limit,
         progress,
     };
     let mut reader = reader;
     let mut writer = io::writer(rt);
     let printed = print_once(rt, rt.alloc(), plan, &mut reader, &mut writer);
     progress.end(rt);
-    printed
+    printed?.taken.ended()
 }
 
 /// The key of the hash function: the one that is given, or else one from the machine's randomness.

@@ -189,6 +189,13 @@ pub const MANY_KEYS: NumberWord = NumberWord {
     high: 178_956_970,
 };
 
+/// `--memory BYTES`: how much may be kept for lines.
+pub const MEMORY: NumberWord = NumberWord {
+    name: "--memory",
+    low: 65_536,
+    high: 1_152_921_504_606_846_975,
+};
+
 /// What is said of a word that isn't what its name asks for.
 pub fn wrong_word(alloc: Global, name: &str, word: &str, complaint: &str) -> WordsFault {
     match format!(in alloc; "{name} {word}: {complaint}") {

@@ -150,6 +150,9 @@ pub enum ProgramFault {
     Crowded,
     #[error("a number comes too often")]
     TooOften,
+    /// What comes next may not fit within `--memory`. How many lines were done before.
+    #[error("stopped behind line {0}: more may not fit within --memory")]
+    MemoryLimit(u64),
     /// A stored value wasn't shown. No test has seen this.
     #[error("a value isn't shown")]
     Unshown,
@@ -171,6 +174,7 @@ impl ProgramFault {
             | ProgramFault::Crowded
             | ProgramFault::TooOften => 5,
             ProgramFault::Unshown => 6,
+            ProgramFault::MemoryLimit(_) => 7,
         }
     }
 }

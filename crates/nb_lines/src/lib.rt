@@ -13,8 +13,8 @@ mod progress;
 
 pub use blocks::{BLOCK, Block, Input, LinePlace};
 pub use command_line::{
-    Argument, CommandLine, Form, Given, MANY_KEYS, VERSION, WORKERS, answer, complain, end_of,
-    wrong_word,
+    Argument, CommandLine, Form, Given, MANY_KEYS, MEMORY, VERSION, WORKERS, answer, complain,
+    end_of, wrong_word,
 };
 pub use faults::{Cause, ProgramFault, Stop, WordsFault};
 pub use keys::{key_of, number_of, read_key};

@@ -1,10 +1,17 @@
 -- The lines of an input are counted block after block.
-use Rattle.std.proofs.Common.{◌≡◌, ◌∙◌, ℕ, Bool, false, List, [], ◌++◌, None, Option, Some, IfSome, ap, append-nil, append_assoc, map, refl, subst, sym}
-use Rattle.std.proofs.lemmas.List.{map-append}
+use Rattle.std.proofs.Common.{◌≡◌, ◌∙◌, ◌==◌, ◌+◌, ◌-◌, ◌^◌, ◌≤◌, ◌<◌, ℕ, Bool, false, List, [], ◌++◌, None, Option, Some, IfSome, ap, arith, drop, length, length-append, map, refl, subst, sym, take}
+use Rattle.std.specs.Prelude.{count_by, min}
+use Rattle.std.proofs.lemmas.List.{length-map, map-append}
+use Rattle.nb_texts.proofs.Theorems.{IsReading, lines-few, lines-within, on-known, reading-begun, reading-ended, reading-first, reading-more, reading-next}
 use Rattle.nb_texts.specs.Lines.{lines_in}
+use Rattle.nb_texts.specs.Memory.{TellsWhetherFits}
 use Rattle.nb_texts.specs.Sources.{HasCut}
 use Rattle.nb_texts.specs.Tallies.{IsTally, times}
+use Rattle.nb_texts.specs.declared.catalog.Catalog.{Catalog}
+use Rattle.nb_texts.specs.declared.memory.Load.{Load}
+use Rattle.nb_texts.specs.declared.memory.MemoryLimit.{MemoryLimit}
 use Rattle.nb_tally.specs.Fields.{counted_of, field}
+use Rattle.nb_tally.specs.Limits.{IsTallyOfFirst, MayNotFit}
 use Rattle.nb_tally.specs.declared.fields.Column.{Column}
 
 -- ---- what is counted of lines
@@ -19,91 +26,141 @@ counted-append :
 counted-append None lines more = refl
 counted-append (Some column) lines more = map-append (field column) lines more
 
+counted-many : (column : Option Column) (lines : List (List ℕ))
+    → length (counted_of column lines) ≡ length lines
+counted-many None lines = refl
+counted-many (Some column) lines = length-map lines (field column)
+
+-- there are no more of them than newlines in a block, and one
+pub counted-few :
+    (column : Option Column) (block counted : List ℕ) (newlines : ℕ)
+    → lines_in counted ≡ counted_of column (lines_in block)
+    → newlines ≡ count_by (λ byte. byte == 10) block → length block < 2 ^ 64
+    → length (lines_in counted) ≤ min (newlines + 1) (2 ^ 64 - 1)
+counted-few column block counted newlines are is fits =
+    omega (
+      arith,
+      ap length are,
+      counted-many column (lines_in block),
+      lines-few block,
+      lines-within block,
+      is,
+      fits,
+    )
+
 -- ---- block after block
 
--- These lines were counted, and what is to be counted of the input is these and what is left.
-pub record IsUnderway (column : Option Column) (known now : Option (List ℕ)) (texts : List (List ℕ))
-    (counts rest : List ℕ) : Type 0 where
+-- These lines were counted, which are so many, and behind them comes what is left of the input.
+pub record IsUnderway (column : Option Column) (known now : Option (List ℕ)) (taken : ℕ)
+    (texts : List (List ℕ)) (counts rest : List ℕ) : Type 0 where
   pub lines : List (List ℕ)
-  pub tally : IsTally lines texts counts
-  pub left :
-      IfSome known (λ input. (left : List ℕ) × (now ≡ Some left)
-      × (counted_of column (lines_in input) ≡ lines ++ counted_of column (lines_in (rest ++ left))))
+  pub many : taken ≡ length lines
+  pub tally : IsTally (counted_of column lines) texts counts
+  pub reading : IsReading known now lines rest
 
 pub underway-begun :
     (column : Option Column) (known : Option (List ℕ)) (texts : List (List ℕ)) (counts rest : List ℕ)
-    → texts ≡ [] → counts ≡ [] → rest ≡ [] → IsUnderway column known known texts counts rest
+    → texts ≡ [] → counts ≡ [] → rest ≡ [] → IsUnderway column known known 0 texts counts rest
 underway-begun column known texts counts rest none zero empty = record {
   lines = [];
-  tally = record { are = none; told = zero ∙ ap (map (λ line. times line [])) (sym none) };
-  left = of known;
+  many = refl;
+  tally =
+      subst (λ lines. IsTally lines texts counts) (sym (counted-none column))
+      (record { are = none; told = zero ∙ ap (map (λ line. times line [])) (sym none) });
+  reading = reading-begun known rest empty;
 }
-  where
-    of :
-        (known : Option (List ℕ))
-        → IfSome known (λ input. (left : List ℕ) × (known ≡ Some left)
-        × (counted_of column (lines_in input) ≡ [] ++ counted_of column (lines_in (rest ++ left))))
-    of None = tt
-    of (Some input) =
-        (input, refl, ap (λ rest. counted_of column (lines_in (rest ++ input))) (sym empty))
 
 pub underway-more :
-    (column : Option Column) (known now next : Option (List ℕ)) (texts texts' : List (List ℕ))
-    (counts counts' rest rest' block : List ℕ) (some : Bool)
-    → IsUnderway column known now texts counts rest → HasCut some now next rest block rest'
+    (column : Option Column) (known now next : Option (List ℕ)) (taken taken' : ℕ)
+    (texts texts' : List (List ℕ)) (counts counts' rest rest' block : List ℕ) (some : Bool)
+    → IsUnderway column known now taken texts counts rest → HasCut some now next rest block rest'
+    → taken' ≡ taken + length (counted_of column (lines_in block))
     → ((lines : List (List ℕ)) → IsTally lines texts counts
     → IsTally (lines ++ counted_of column (lines_in block)) texts' counts')
-    → IsUnderway column known next texts' counts' rest'
-underway-more column known now next texts texts' counts counts' rest rest' block some under cut counted =
+    → IsUnderway column known next taken' texts' counts' rest'
+underway-more column known now next taken taken' texts texts' counts counts' rest rest' block some under
+    cut more counted =
     record {
-      lines = under.lines ++ counted_of column (lines_in block);
-      tally = counted under.lines under.tally;
-      left = of known under.left;
+      lines = under.lines ++ lines_in block;
+      many =
+          omega (
+            arith,
+            more,
+            under.many,
+            counted-many column (lines_in block),
+            length-append under.lines (lines_in block),
+          );
+      tally =
+          subst (λ lines. IsTally lines texts' counts')
+          (sym (counted-append column under.lines (lines_in block)))
+          (counted (counted_of column under.lines) under.tally);
+      reading = reading-more known now next under.lines rest rest' block some under.reading cut;
     }
-  where
-    of :
-        (known : Option (List ℕ))
-        → IfSome known (λ input. (left : List ℕ) × (now ≡ Some left)
-        × (counted_of column (lines_in input)
-        ≡ under.lines ++ counted_of column (lines_in (rest ++ left))))
-        → IfSome known (λ input. (left : List ℕ) × (next ≡ Some left)
-        × (counted_of column (lines_in input)
-        ≡ (under.lines ++ counted_of column (lines_in block))
-        ++ counted_of column (lines_in (rest' ++ left))))
-    of None left = tt
-    of (Some input) (left, is, same) =
-        let here = subst (λ now. IfSome now (λ input. (left : List ℕ) × (next ≡ Some left)
-        × (lines_in (rest ++ input) ≡ lines_in block ++ lines_in (rest' ++ left)))) is cut.cut in (
-          here.0,
-          here.1,
-          same
-              ∙ ap (λ lines. under.lines ++ lines)
-              (ap (counted_of column) here.2
-              ∙ counted-append column (lines_in block) (lines_in (rest' ++ here.0)))
-              ∙ sym (append_assoc under.lines (counted_of column (lines_in block))
-              (counted_of column (lines_in (rest' ++ here.0)))),
-        )
+
+pub underway-same :
+    (column : Option Column) (known now : Option (List ℕ)) (taken : ℕ) (texts texts' : List (List ℕ))
+    (counts counts' rest : List ℕ) → texts' ≡ texts → counts' ≡ counts
+    → IsUnderway column known now taken texts counts rest
+    → IsUnderway column known now taken texts' counts' rest
+underway-same column known now taken texts texts' counts counts' rest same equal under =
+    rw (same, equal) under
 
 -- nothing is left
 pub underway-ended :
-    (column : Option Column) (known now next : Option (List ℕ)) (texts : List (List ℕ))
-    (counts rest rest' block : List ℕ) (some : Bool) → IsUnderway column known now texts counts rest
-    → HasCut some now next rest block rest' → some ≡ false
+    (column : Option Column) (known now next : Option (List ℕ)) (taken : ℕ) (texts : List (List ℕ))
+    (counts rest rest' block : List ℕ) (some : Bool)
+    → IsUnderway column known now taken texts counts rest → HasCut some now next rest block rest'
+    → some ≡ false
     → IfSome known (λ input. IsTally (counted_of column (lines_in input)) texts counts)
-underway-ended column known now next texts counts rest rest' block some under cut ended =
-    of known under.left
-  where
-    of :
-        (known : Option (List ℕ))
-        → IfSome known (λ input. (left : List ℕ) × (now ≡ Some left)
-        × (counted_of column (lines_in input)
-        ≡ under.lines ++ counted_of column (lines_in (rest ++ left))))
-        → IfSome known (λ input. IsTally (counted_of column (lines_in input)) texts counts)
-    of None left = tt
-    of (Some input) (left, is, same) =
-        let none : rest ++ left ≡ []
-        = subst (λ now. IfSome now (λ input. rest ++ input ≡ [])) is (cut.ended ended) in
-        let all : under.lines ≡ counted_of column (lines_in input)
-        = sym (same ∙ ap (λ bytes. under.lines ++ counted_of column (lines_in bytes)) none
-        ∙ ap (λ lines. under.lines ++ lines) (counted-none column) ∙ append-nil under.lines) in
-        subst (λ lines. IsTally lines texts counts) all under.tally
+underway-ended column known now next taken texts counts rest rest' block some under cut ended =
+    on-known known (λ input. under.lines ≡ lines_in input)
+    (λ input. IsTally (counted_of column (lines_in input)) texts counts)
+    (λ input all. subst (λ lines. IsTally (counted_of column lines) texts counts) all under.tally)
+    (reading-ended known now next under.lines rest rest' block some under.reading cut ended)
+
+-- so many of the first lines were counted
+pub underway-first :
+    (column : Option Column) (known now : Option (List ℕ)) (taken : ℕ) (texts : List (List ℕ))
+    (counts rest : List ℕ) → IsUnderway column known now taken texts counts rest
+    → IfSome known (λ input. IsTallyOfFirst column input taken texts counts)
+underway-first column known now taken texts counts rest under =
+    on-known known
+    (λ input. (taken ≤ length (lines_in input)) × (take taken (lines_in input) ≡ under.lines))
+    (λ input. IsTallyOfFirst column input taken texts counts)
+    (λ input is. record {
+      within = is.0;
+      tally = subst (λ lines. IsTally (counted_of column lines) texts counts) (sym is.1) under.tally;
+    })
+    (reading-first known now under.lines rest taken under.many under.reading)
+
+-- ---- a limit
+
+-- a block might not fit
+pub limited :
+    (column : Option Column) (limit : Option MemoryLimit) (known now next : Option (List ℕ))
+    (taken : ℕ) (texts : List (List ℕ)) (counts rest rest' block counted : List ℕ) (some : Bool)
+    (load : Load) (catalog : Catalog) → IsUnderway column known now taken texts counts rest
+    → HasCut some now next rest block rest' → lines_in counted ≡ counted_of column (lines_in block)
+    → load.lines ≤ count_by (λ byte. byte == 10) block + 1 → load.bytes ≡ length counted
+    → TellsWhetherFits limit catalog load false
+    → IfSome limit (λ limit. IfSome known (λ input. MayNotFit column limit input taken catalog))
+limited column None known now next taken texts counts rest rest' block counted some load catalog under
+    cut are few bytes fits =
+    tt
+limited column (Some limit) known now next taken texts counts rest rest' block counted some load catalog
+    under cut are few bytes fits =
+    on-known known
+    (λ input. (behind : List ℕ) × (drop taken (lines_in input) ≡ lines_in block ++ lines_in behind))
+    (λ input. MayNotFit column limit input taken catalog)
+    (λ input next. record {
+      block = block;
+      rest = next.0;
+      next = next.1;
+      counted = counted;
+      are = are;
+      load = load;
+      few = few;
+      bytes = bytes;
+      over = fits;
+    })
+    (reading-next known now next under.lines rest rest' block some taken under.many under.reading cut)

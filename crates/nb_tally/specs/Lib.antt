@@ -1,3 +1,4 @@
 -- The definitions that the contracts cite.
 pub mod Fields
+pub mod Limits
 pub mod Sorting

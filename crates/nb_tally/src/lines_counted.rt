@@ -1,44 +1,78 @@
 //! Lines, counted.
-ghost use Rattle.std.specs.Prelude.{IfOk, IfSome};
+ghost use Rattle.std.specs.Prelude.{◌≡◌, IfOk, IfSome, IsTrue, None, false, length};
 ghost use Rattle.nb_texts.specs.Lines.{lines_in};
+ghost use Rattle.nb_texts.specs.Memory.{KeepsTo};
 ghost use Rattle.nb_texts.specs.Tallies.{IsTally};
 ghost use Rattle.nb_tally.specs.Fields.{counted_of};
+ghost use Rattle.nb_tally.specs.Limits.{IsTallyOfFirst, MayNotFit};
 
 use crate::fields::{Column, counted_in};
 use nb_lines::{Done, ProgramFault};
-use nb_texts::{Catalog, LinePlan, LineSource, LineTally};
+use nb_texts::{Catalog, LinePlan, LineSource, LineTally, Load, Taken};
 use std::alloc::Global;
 use std::io::Read;
 use std::sync::Wait;
 use std::thread::Threads;
 
+/// What was counted of an input.
+#[derive(Drop)]
+pub(crate) struct Counted {
+    pub(crate) tally: LineTally,
+    pub(crate) taken: Taken,
+}
+
 /// Each distinct line of an input or, of a column of it, each distinct field, with how often it comes.
+/// Under a limit it ends before a block of lines that might not fit.
 pub(crate) fn tally_lines<R, I>(
     rt: &R,
     alloc: Global,
     plan: LinePlan,
     column: Option<Column>,
     reader: &mut I,
-) -> Result<LineTally, ProgramFault>
+) -> Result<Counted, ProgramFault>
 where
     R: Threads + Sync + Wait + Eprint,
     I: Read,
-    ensures { IfOk result (λ tally. IfSome (I.remaining reader.old) (λ input.
-        IsTally (counted_of column (lines_in input)) tally.catalog.texts tally.counts.items)) }
+    ensures whole { IfOk result (λ counted. IsTrue counted.taken.is_whole
+        → IfSome (I.remaining reader.old) (λ input. IsTally (counted_of column (lines_in input))
+        counted.tally.catalog.texts counted.tally.counts.items)) }
+    ensures first { IfOk result (λ counted. IfSome (I.remaining reader.old) (λ input.
+        IsTallyOfFirst column input counted.taken.lines counted.tally.catalog.texts
+        counted.tally.counts.items)) }
+    ensures unlimited { plan.limit ≡ None → IfOk result (λ counted. IsTrue counted.taken.is_whole) }
+    ensures many { IfOk result (λ counted.
+        length counted.tally.counts.items ≡ length counted.tally.catalog.texts) }
+    ensures kept { IfOk result (λ counted.
+        KeepsTo plan.limit counted.taken.lines counted.tally.catalog) }
+    ensures full { IfOk result (λ counted. counted.taken.is_whole ≡ false
+        → IfSome plan.limit (λ limit. IfSome (I.remaining reader.old) (λ input.
+        MayNotFit column limit input counted.taken.lines counted.tally.catalog))) }
 {
-    let mut tally = LineTally::new(alloc, Catalog::open(alloc, plan.hashing, plan.room)?);
-    let mut source = LineSource::new(alloc)?;
+    let mut tally = LineTally::new(
+        alloc,
+        Catalog::open(alloc, plan.hashing, plan.first_room(), plan.limit)?,
+    );
+    let mut source = LineSource::new(alloc, plan.ahead())?;
     let mut fields = Vec::new(alloc);
+    let mut taken = Taken::NOTHING;
     let mut done = Done::NOTHING;
     for _ in 0..u64::MAX {
         if !source.refill(reader)? {
-            return Ok(tally);
+            taken.is_whole = true;
+            return Ok(Counted { tally, taken });
         }
-        let lines = source.newlines();
-        let most = lines.saturating_add(1);
+        let newlines = source.newlines();
         let block = counted_in(column, source.block(), &mut fields)?;
-        tally.enter(rt, alloc, block, most, plan.workers)?;
-        done = source.done_with(done, lines);
+        let load = Load {
+            lines: newlines.saturating_add(1),
+            bytes: block.len(),
+        };
+        if !tally.make_room_within(alloc, plan.limit, load)? {
+            return Ok(Counted { tally, taken });
+        }
+        let lines = tally.enter(rt, alloc, block, plan.workers)?;
+        taken = taken.with(lines)?;
+        done = source.done_with(done, newlines);
         plan.progress.tell_done(rt, done);
     }
     Err(ProgramFault::Read)

@@ -3,8 +3,10 @@
 use crate::fields::Column;
 use nb_core::{MAX_EXPONENT, Shape};
 use nb_lines::{
-    Argument, CommandLine, Form, Given, NumberWord, ProgramFault, WORKERS, WordsFault, wrong_word,
+    Argument, CommandLine, Form, Given, MEMORY, NumberWord, ProgramFault, WORKERS, WordsFault,
+    wrong_word,
 };
+use nb_texts::{MemoryLimit, TALLY_EACH};
 use std::alloc::Global;
 
 /// The most slots of a table, and so the most different numbers that any map has room for.
@@ -83,6 +85,8 @@ pub(crate) struct LineOptions {
     pub(crate) order: Order,
     /// How many lines are printed, if not all are.
     pub(crate) top: Option<u64>,
+    /// How much may be kept for lines, if that is limited.
+    pub(crate) limit: Option<MemoryLimit>,
 }
 
 /// What numbers are to be counted, and how.
@@ -118,12 +122,18 @@ it: each delimiter parts two fields, also where several stand side by side. Wher
 a line has fewer fields, an empty one is counted, also where it has no delimiter
 at all; cut would give that line whole.
 
+With --memory it stops before lines that may not fit, prints the counts of those
+before them, which are exact, and says after how many lines it stopped. For each
+different line it keeps the bytes of the line and 56 more, and the map has some 24
+to 96; a block of input, 1 MiB or a line, comes on top.
+
 With --numbers each line is one number from 0 to 18446744073709551613, in digits
 only. It ends with a newline, or with a carriage return and a newline. Numbers are
 printed in ascending order, like sort -n | uniq -c, or by count with --top.
 
 Exit status: 0 done; 1 a read or a write failed; 2 a line is not such a number;
-3 bad usage; 4 out of memory; 5 more different numbers than there is room for.
+3 bad usage; 4 out of memory; 5 more different numbers than there is room for;
+7 stopped by --memory.
 
 Example: printf 'b\\na\\nb\\n' | nb_tally --top 1
       2 b";
@@ -170,6 +180,11 @@ pub(crate) const LINE: CommandLine = CommandLine {
             help: "Make room for N different lines at first, or for at least N different numbers in all; 1 to 268435456",
         },
         Argument {
+            form: Form::Number(MEMORY, "BYTES"),
+            default: None,
+            help: "Keep no more than so many bytes for lines, and stop before some that may not fit; 65536 to 1152921504606846975",
+        },
+        Argument {
             form: Form::Number(SEED, "N"),
             default: None,
             help: "Hash lines by the key N, and not by one from the machine's randomness; 0 to 18446744073709551615",
@@ -198,12 +213,24 @@ pub(crate) fn task_of(alloc: Global, given: &Given) -> Result<Task, WordsFault> 
         column: column_of(alloc, given)?,
         order: order_of(alloc, given, top)?,
         top,
+        limit: limit_of(alloc, given)?,
     }))
 }
 
-/// To count numbers, whose order isn't asked for, nor a column of them.
+/// How much a tally may keep for lines, if that is limited.
+fn limit_of(alloc: Global, given: &Given) -> Result<Option<MemoryLimit>, WordsFault> {
+    match MEMORY.find(alloc, given)? {
+        Some(bytes) => Ok(Some(MemoryLimit {
+            bytes: bytes as usize,
+            each: TALLY_EACH,
+        })),
+        None => Ok(None),
+    }
+}
+
+/// To count numbers, whose order isn't asked for, nor a column of them, nor how much is kept.
 fn numbers_of(alloc: Global, given: &Given, options: Options) -> Result<Task, WordsFault> {
-    for name in [BY, FIELD.name, DELIMITER] {
+    for name in [BY, FIELD.name, DELIMITER, MEMORY.name] {
         if let Some(word) = given.text(name) {
             return Err(wrong_word(alloc, name, word, "not with --numbers"));
         }

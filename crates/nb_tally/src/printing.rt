@@ -1,7 +1,11 @@
 //! Printing, in the form of `uniq -c`.
+ghost use Rattle.std.specs.List.Sorted.{IsPermutation, IsSorted};
+ghost use Rattle.std.specs.Prelude.{◌≡◌};
+ghost use Rattle.nb_tally.specs.Sorting.{HasOrdered, row_cmp};
+ghost use Rattle.nb_tally.specs.declared.options.Order.TheVariants as order;
 
 use crate::counting::Count;
-use crate::options::Order;
+use crate::options::{LineOptions, Order};
 use crate::sorting::sort_by_line;
 use itoa::Buffer;
 use nb_lines::ProgramFault;
@@ -49,15 +53,28 @@ fn print_to<W: Write>(writer: &mut W, counts: &[Count]) -> io::Result<()> {
     writer.flush()
 }
 
-/// Puts the rows of lines into an order, and leaves as many as are asked for.
-pub(crate) fn sort_rows(alloc: Global, rows: &mut Vec<Row<'_>>, order: Order, top: Option<u64>) {
-    match order {
-        Order::Count => rows.sort_unstable_by_key(|row| (Reverse(row.times), row.place)),
-        Order::Line => sort_by_line(alloc, rows.as_mut_slice()),
-        Order::First => {}
-    }
-    if let Some(top) = top {
+/// Puts the rows of lines into the order that is asked for, and leaves as many as are.
+pub(crate) fn sort_rows(alloc: Global, rows: &mut Vec<Row<'_>>, options: &LineOptions)
+    ensures { HasOrdered options.now.order options.now.top rows.old.items rows.new.items }
+{
+    put_in_order(alloc, rows.as_mut_slice(), options);
+    if let Some(top) = options.top {
         rows.truncate(top as usize);
+    }
+}
+
+/// Puts the rows of lines into the order that is asked for. Under a limit of memory none is taken for
+/// that.
+fn put_in_order(alloc: Global, rows: &mut [Row<'_>], options: &LineOptions)
+    ensures same { IsPermutation rows.old rows.new }
+    ensures by_line { options.now.order ≡ order.Line → IsSorted row_cmp rows.new }
+    ensures as_first { options.now.order ≡ order.First → rows.new ≡ rows.old }
+{
+    match options.order {
+        Order::Count => rows.sort_unstable_by_key(|row| (Reverse(row.times), row.place)),
+        Order::Line if options.limit.is_some() => rows.sort_unstable(),
+        Order::Line => sort_by_line(alloc, rows),
+        Order::First => {}
     }
 }
 

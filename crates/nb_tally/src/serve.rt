@@ -1,7 +1,8 @@
 //! The program: its words, what it reads and what it prints.
+ghost use Rattle.std.specs.Prelude.{◌≡◌, length};
 
 use crate::counting::tally;
-use crate::lines_counted::tally_lines;
+use crate::lines_counted::{Counted, tally_lines};
 use crate::options::{LINE, LineOptions, Options, Task, task_of};
 use crate::printing::{print, print_rows, sort, sort_rows};
 use nb_lines::{ProgramFault, ProgressMeter};
@@ -26,7 +27,7 @@ where
     }
 }
 
-/// Counts lines.
+/// Counts lines, and prints what was counted, also where memory ended before the input did.
 fn lines<R, I>(
     rt: &R,
     options: LineOptions,
@@ -41,12 +42,15 @@ where
         hashing: Hashing::new(seed_of(rt, options)?, options.bits),
         workers: options.workers,
         room: options.room,
+        limit: options.limit,
         progress,
     };
     let mut reader = reader;
     let counted = tally_lines(rt, rt.alloc(), plan, options.column, &mut reader);
     progress.end(rt);
-    print_tally(rt.alloc(), io::writer(rt), &counted?, options)
+    let Counted { tally, taken } = counted?;
+    print_tally(rt.alloc(), io::writer(rt), &tally, options)?;
+    taken.ended()
 }
 
 /// Prints the lines that are asked for, in the order that is asked for.
@@ -55,9 +59,11 @@ fn print_tally<W: io::Write + Drop>(
     writer: W,
     tally: &LineTally,
     options: LineOptions,
-) -> Result<(), ProgramFault> {
+) -> Result<(), ProgramFault>
+    requires { length tally.now.counts.items ≡ length tally.now.catalog.texts }
+{
     let mut rows = tally.rows(alloc)?;
-    sort_rows(alloc, &mut rows, options.order, options.top);
+    sort_rows(alloc, &mut rows, &options);
     print_rows(alloc, writer, rows.as_slice())
 }
 

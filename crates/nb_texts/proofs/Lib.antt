@@ -2,8 +2,11 @@
 pub mod ClueLemmas
 pub mod FindingLemmas
 pub mod LinesLemmas
+pub mod MemoryLemmas
 pub mod PlacesLemmas
+pub mod ReadingLemmas
 pub mod RestLemmas
+pub mod RowsLemmas
 pub mod SourceLemmas
 pub mod TallyLemmas
 pub mod Theorems

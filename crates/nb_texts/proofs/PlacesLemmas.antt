@@ -1,12 +1,13 @@
 -- Texts one behind another: what is put behind them leaves them as they are.
 use Rattle.std.proofs.Common.{◌≡◌, ◌∙◌, ◌+◌, ◌-◌, ◌≤◌, ◌<◌, ℕ, zero, suc, List, [], ◌∷◌, ◌++◌, Some, None, ap, ap₂, append_assoc, arith, drop, get_or, length, length-append, map, refl, sym, take}
-use Rattle.std.specs.Prelude.{slice_get, slice_range}
+use Rattle.std.specs.Prelude.{slice_get, slice_range, sum_by}
 use Rattle.std.proofs.Math.Seq.{take-suc}
-use Rattle.std.proofs.lemmas.List.{drop-append-le, drop_at, flat_map_more, get_or-drop, length-drop, map-append, take-append-le, take_all}
+use Rattle.std.proofs.lemmas.List.{drop-append-le, drop_at, flat_map_more, get_or-drop, length-drop, length-take-le, map-append, take-append-le, take_all}
+use Rattle.std.proofs.lemmas.List.Sums.{sum_by-append, sum_by-cons}
 use Rattle.std.proofs.lemmas.Option.{get_or_from_slice_get, slice_get_within}
 use Rattle.std.proofs.lemmas.List.Elements.{All-head, All-push, All-tail, All-weaker}
 use Rattle.nb_texts.specs.Lines.{text_of_lines}
-use Rattle.nb_texts.specs.Places.{AreWithin, IsWithin, text_at, texts_at}
+use Rattle.nb_texts.specs.Places.{AreLaidOut, AreWithin, IsWithin, span, text_at, texts_at}
 use Rattle.nb_texts.specs.declared.texts.Place.{Place}
 
 text-kept : (bytes more : List ℕ) (place : Place) → IsWithin bytes place
@@ -44,6 +45,49 @@ within-push bytes text places start end first last within =
       omega (arith, first, last, length-append bytes text),
       omega (arith, last),
     )
+
+pub laid-push :
+    (bytes text : List ℕ) (places : List Place) (start end : ℕ) → start ≡ length bytes
+    → end ≡ length (bytes ++ text) → AreLaidOut bytes places
+    → AreLaidOut (bytes ++ text) (places ++ record { start = start; end = end } ∷ [])
+laid-push bytes text places start end first last laid =
+    let last-place : Place = record { start = start; end = end } in
+    record {
+      within = within-push bytes text places start end first last laid.within;
+      filled =
+          omega (
+            arith,
+            sum_by-append span places (last-place ∷ []),
+            sum_by-cons span last-place [],
+            laid.filled,
+            first,
+            last,
+            length-append bytes text,
+          );
+    }
+
+-- the texts have as many bytes as stand at their places
+span-text : (bytes : List ℕ) (place : Place) → IsWithin bytes place
+    → length (text_at bytes place) ≡ span place
+span-text bytes place within =
+    length-take-le (place.end - place.start) (drop place.start bytes)
+    (omega (arith, within.0, within.1, length-drop place.start bytes))
+
+bytes-at : (bytes : List ℕ) (places : List Place) → AreWithin bytes places
+    → sum_by length (texts_at bytes places) ≡ sum_by span places
+bytes-at bytes [] within = refl
+bytes-at bytes (place ∷ places) within =
+    omega (
+      arith,
+      span-text bytes place (All-head (IsWithin bytes) place places within),
+      bytes-at bytes places (All-tail (IsWithin bytes) place places within),
+      sum_by-cons length (text_at bytes place) (texts_at bytes places),
+      sum_by-cons span place places,
+    )
+
+pub bytes-laid : (bytes : List ℕ) (places : List Place) → AreLaidOut bytes places
+    → length bytes ≡ sum_by length (texts_at bytes places)
+bytes-laid bytes places laid = sym (bytes-at bytes places laid.within ∙ laid.filled)
 
 pub texts-push :
     (bytes text : List ℕ) (places : List Place) (start end : ℕ) → start ≡ length bytes

@@ -1,16 +1,16 @@
 -- How often each line comes, counted by the places of lines.
-use Rattle.std.proofs.Common.{◌≡◌, ◌≢◌, ◌∙◌, ◌+◌, ◌≤◌, ◌<◌, ◌==◌, ℕ, zero, suc, Bool, true, false, cond, if◌then◌else◌, List, [], ◌∷◌, ◌++◌, All, None, Option, Some, ap, ap₂, arith, get_or, inl, inr, ◌⊎◌, length, map, refl, subst, sym, zero-add}
+use Rattle.std.proofs.Common.{◌≡◌, ◌∙◌, ◌+◌, ◌<◌, ◌==◌, ℕ, zero, suc, true, false, cond, List, [], ◌∷◌, ◌++◌, All, Some, ap, ap₂, arith, get_or, inl, inr, length, map, refl, subst, sym, zero-add}
 use Rattle.std.specs.Prelude.{count_by, slice_get, slice_index}
-use Rattle.std.proofs.lemmas.Bool.{cases_Bool, cases_lt, eq-eqb, eqb-true, ne_eqb, or_left, or_right}
+use Rattle.std.proofs.lemmas.Bool.{cases_Bool, cases_lt, eq-eqb, eqb-true, or_left, or_right}
 use Rattle.std.proofs.lemmas.List.{get_or_default, get_or_past, length-map, same_lists}
-use Rattle.std.proofs.lemmas.List.Elements.{All-cons, All-head, All-nil, All-tail, All-weaker}
+use Rattle.std.proofs.lemmas.List.Elements.{All-cons, All-head, All-nil, All-tail}
 use Rattle.std.proofs.lemmas.List.Sums.{sum_by-cons}
 use Rattle.std.proofs.lemmas.Option.{slice_get_within}
 use Rattle.std.proofs.lemmas.Slice.Eq.{bytes_eq-Decides}
 use Rattle.core.specs.Str.{bytes_eq}
 use Rattle.nb_texts.proofs.FindingLemmas.{among, get-left, get-push, not-among}
 use Rattle.nb_texts.proofs.LinesLemmas.{with-append, with-grows}
-use Rattle.nb_texts.specs.Lines.{distinct, is_among, lines_in, with_new_lines}
+use Rattle.nb_texts.specs.Lines.{is_among, with_new_lines}
 use Rattle.nb_texts.specs.Tallies.{IsTally, times}
 
 -- ---- no line is there twice

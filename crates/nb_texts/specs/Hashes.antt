@@ -1,7 +1,13 @@
 -- The keys under which a text is looked for.
-use Rattle.std.specs.Prelude.{ℕ, ◌+◌, ◌%◌, ◌^◌, List, bit_and}
-use Rattle.core.specs.Hash.DefaultHasher.{finish, write}
+use Rattle.std.specs.Prelude.{ℕ, ◌+◌, ◌-◌, ◌%◌, ◌^◌, List, bit_and, min}
+use Rattle.core.specs.Hash.DefaultHasher.{finish, with_keys, write}
 use Rattle.nb_texts.specs.declared.hashing.Hashing.{Hashing}
+use Rattle.nb_texts.specs.declared.hashing.TheConstants.{SECOND}
+
+-- the hash function with this key, of whose hashes the lowest bits count, so many, and 64 at most
+unfoldable pub hashing_of : (seed bits : ℕ) → Hashing
+hashing_of seed bits =
+    record { hasher = with_keys seed SECOND; mask = min (2 ^ bits) (2 ^ 64) - 1 }
 
 -- the hash of a text: of its SipHash the bits that count
 unfoldable pub hash_of : Hashing → List ℕ → ℕ

@@ -4,6 +4,8 @@ pub mod Clues
 pub mod Entering
 pub mod Hashes
 pub mod Lines
+pub mod Memory
 pub mod Places
+pub mod Rows
 pub mod Sources
 pub mod Tallies

@@ -1,21 +1,27 @@
 //! A catalog: the distinct lines of a stream, found by their hashes in a map.
-ghost use Rattle.std.specs.Prelude.{◌≡◌, ◌+◌, ◌≤◌, ◌++◌, [], ◌∷◌, ℕ, All, IfOk, List, MatchOption, None, OnOk, Some, drop, length, map, min, slice_get};
+ghost use Rattle.std.specs.Prelude.{◌≡◌, ◌+◌, ◌^◌, ◌≤◌, ◌<◌, ◌↔◌, ◌⊎◌, ◌++◌, [], ◌∷◌, ℕ, All, IfOk, IsTrue, List, MatchOption, None, OnErr, OnOk, Some, drop, length, map, min, slice_get, sum_by};
+ghost use Rattle.std.specs.Bool.{OnFalse, OnTrue};
+ghost use Rattle.nb_core.specs.Meaning.{IsCrowded};
 ghost use Rattle.nb_core.specs.Plans.{HasRoomFor};
 ghost use Rattle.nb_core.specs.declared.shapes.TheConstants.{MOST_KEYS};
-ghost use Rattle.nb_map.specs.Handles.{IsSameMap, KeepsRest, all_seats, handle_on, seats_of};
+ghost use Rattle.nb_lines.specs.declared.faults.ProgramFault.TheVariants as fault;
+ghost use Rattle.nb_map.specs.Handles.{IsSameMap, IsWhole, KeepsRest, all_seats, handle_on, seats_of};
 ghost use Rattle.nb_map.specs.Logs.{HasFound};
 ghost use Rattle.nb_map.specs.NamedCalls.{put_if_absent_of};
 ghost use Rattle.nb_map.specs.OneSeat.{held};
+ghost use Rattle.nb_map.specs.Renewing.{HasTooMany};
 ghost use Rattle.nb_map.specs.Settling.{HaveSettled};
 ghost use Rattle.nb_texts.specs.Catalogs.{HaveOneLog};
 ghost use Rattle.nb_texts.specs.Clues.{AreCluesTo, ArePartedFrom, IsClueTo};
 ghost use Rattle.nb_texts.specs.Entering.{HasEntered};
 ghost use Rattle.nb_texts.specs.Hashes.{hash_of, key_for};
 ghost use Rattle.nb_texts.specs.Lines.{lines_in, text_of_lines, with_new_lines};
+ghost use Rattle.nb_texts.specs.Memory.{bytes_to_make, shape_with_room, widened};
 
 use crate::clues::{Clue, Found, found_by};
 use crate::hashing::{Hashing, key_after};
 use crate::lines::split_line;
+use crate::memory::{Load, MemoryLimit, left_beside};
 use crate::texts::Texts;
 use nb_core::{Key, MOST_KEYS, Num, OutOfMemory, Shape};
 use nb_lines::ProgramFault;
@@ -23,6 +29,9 @@ use nb_map::{Full, Handle, RenewFault};
 use std::alloc::Global;
 use std::sync::Wait;
 use std::thread::Threads;
+
+/// How many bytes a catalog keeps for a line beside its own: its place.
+pub const CATALOG_EACH: usize = 16;
 
 /// The most threads that look lines up.
 const MOST_READERS: usize = 8;
@@ -32,6 +41,9 @@ const SEATS: usize = MOST_READERS + 1;
 
 /// How many bytes are worth a thread.
 const WORTH: usize = 1 << 15;
+
+/// How many bytes each word of a map takes while it is made, and each entry of the one before.
+const MAKING: usize = 16;
 
 /// The distinct lines of what was entered, in the order of their first coming.
 #[derive(Drop)]
@@ -46,16 +58,25 @@ pub struct Catalog {
 
 impl Catalog {
     ghost use Rattle.nb_texts.specs.Catalogs.{IsAtRest};
+    ghost use Rattle.nb_texts.specs.Memory.{TellsWhetherFits};
 
-    /// A catalog without lines, whose map has room for so many at first.
-    pub fn open(alloc: Global, hashing: Hashing, room: usize) -> Result<Catalog, ProgramFault>
+    /// A catalog without lines, whose map has room for so many at first. Under a limit it asks for the
+    /// addresses of all lines that it may come to have; memory is taken as they come.
+    pub fn open(
+        alloc: Global,
+        hashing: Hashing,
+        room: usize,
+        limit: Option<MemoryLimit>,
+    ) -> Result<Catalog, ProgramFault>
         ensures rest { IfOk result IsAtRest }
         ensures empty { IfOk result (λ catalog. catalog.texts ≡ []) }
+        ensures hashing { IfOk result (λ catalog. catalog.hashing ≡ hashing) }
+        ensures room { IfOk result (λ catalog. catalog.room ≡ min room MOST_KEYS) }
     {
         let room = room.min(MOST_KEYS);
         let handle = Handle::open(alloc, shape_for(room))?;
         Ok(Catalog {
-            texts: Texts::new(alloc),
+            texts: texts_for(alloc, limit),
             handle,
             hashing,
             room,
@@ -96,7 +117,84 @@ impl Catalog {
         if needed.min(MOST_KEYS) <= self.room {
             return Ok(());
         }
-        let room = needed.saturating_mul(2).min(MOST_KEYS);
+        self.renew_for(alloc, needed.saturating_mul(2).min(MOST_KEYS))
+    }
+
+    /// Makes room for a block of new lines, as [`make_room`](Catalog::make_room) does. It answers
+    /// whether the block fits within a limit, if there is one. If not, nothing was done.
+    pub fn make_room_within(
+        &mut self,
+        alloc: Global,
+        limit: Option<MemoryLimit>,
+        block: Load,
+    ) -> Result<bool, ProgramFault>
+        requires rest { IsAtRest self.old }
+        ensures rest { OnOk result (IsAtRest self.new) }
+        ensures room { IfOk result (λ fits. OnTrue fits
+            (min (length self.new.texts + block.lines) MOST_KEYS ≤ self.new.room)) }
+        ensures same { self.new.texts ≡ self.old.texts }
+        ensures fits { IfOk result (TellsWhetherFits limit self.new block) }
+        ensures back { IfOk result (λ fits. OnFalse fits (self.new ≡ self.old)) }
+    {
+        match limit {
+            Some(limit) => self.make_room_in(alloc, limit, block),
+            None => {
+                self.make_room(alloc, block.lines)?;
+                Ok(true)
+            }
+        }
+    }
+
+    /// The same, within this limit.
+    fn make_room_in(
+        &mut self,
+        alloc: Global,
+        limit: MemoryLimit,
+        block: Load,
+    ) -> Result<bool, ProgramFault>
+        requires rest { IsAtRest self.old }
+        ensures rest { OnOk result (IsAtRest self.new) }
+        ensures room { IfOk result (λ fits. OnTrue fits
+            (min (length self.new.texts + block.lines) MOST_KEYS ≤ self.new.room)) }
+        ensures same { self.new.texts ≡ self.old.texts }
+        ensures fits { IfOk result (TellsWhetherFits (Some limit) self.new block) }
+        ensures back { IfOk result (λ fits. OnFalse fits (self.new ≡ self.old)) }
+    {
+        let words = self.handle.shape().words();
+        let Some(left) = left_beside(limit, self.load(), block, words) else {
+            return Ok(false);
+        };
+        let needed = self.texts.len().saturating_add(block.lines).min(MOST_KEYS);
+        if needed <= self.room {
+            return Ok(true);
+        }
+        let Some(room) = room_within(left, self.texts.len(), needed) else {
+            return Ok(false);
+        };
+        self.renew_for(alloc, room)?;
+        Ok(true)
+    }
+
+    /// The lines.
+    fn load(&self) -> Load
+        ensures lines { result.lines ≡ length self.now.texts }
+        ensures bytes { result.bytes ≡ sum_by length self.now.texts }
+    {
+        Load {
+            lines: self.texts.len(),
+            bytes: self.texts.bytes(),
+        }
+    }
+
+    /// Makes the map anew, with so much room.
+    fn renew_for(&mut self, alloc: Global, room: usize) -> Result<(), ProgramFault>
+        requires rest { IsAtRest self.old }
+        requires most { room ≤ MOST_KEYS }
+        ensures rest { OnOk result (IsAtRest self.new) }
+        ensures room { OnOk result (self.new.room ≡ room) }
+        ensures same { self.new.texts ≡ self.old.texts }
+        ensures shape { OnOk result (self.new.handle.map.chain.shape ≡ shape_with_room room) }
+    {
         renew(alloc, &mut self.handle, shape_for(room))?;
         self.room = room;
         Ok(())
@@ -118,6 +216,7 @@ impl Catalog {
             ≡ with_new_lines self.old.texts (lines_in block.now)) }
         ensures places { IfOk result (λ places. map (slice_get self.new.texts) places.items
             ≡ map Some (lines_in block.now)) }
+        ensures map { OnOk result (self.new.handle.map ≡ self.old.handle.map) }
     {
         let readers = parted(alloc, &mut self.handle, readers_for(block.len(), workers))?;
         let found = found_by(rt, alloc, &self.texts, self.hashing, readers, block)?;
@@ -136,14 +235,57 @@ impl Catalog {
     }
 }
 
+/// No texts, but under a limit with room for as many as it lets be kept, if that isn't refused. So none
+/// of them is ever twice in memory, as where it moves.
+fn texts_for(alloc: Global, limit: Option<MemoryLimit>) -> Texts
+    ensures { result ≡ [] }
+{
+    let mut texts = Texts::new(alloc);
+    if let Some(limit) = limit {
+        let _ = texts.reserve(limit.bytes, limit.bytes / CATALOG_EACH);
+    }
+    texts
+}
+
 /// The shape of a map with room for so many keys.
 fn shape_for(room: usize) -> Shape
     requires { room ≤ MOST_KEYS }
-    ensures { HasRoomFor result room }
+    ensures room { HasRoomFor result room }
+    ensures shape { result ≡ shape_with_room room }
 {
     match Shape::for_keys(room, SEATS) {
         Ok(shape) => shape,
         Err(_) => unreachable!(),
+    }
+}
+
+/// For how many lines a map can be made within so many bytes, beside one of so many entries: for twice
+/// as many as are needed, or else for a quarter more.
+fn room_within(left: usize, entries: usize, needed: usize) -> Option<usize>
+    requires { needed ≤ MOST_KEYS }
+    ensures { MatchOption result (left < bytes_to_make (widened needed) entries)
+        (λ room. (needed ≤ room) × (room ≤ MOST_KEYS) × (bytes_to_make room entries ≤ left)) }
+{
+    let twice = (needed * 2).min(MOST_KEYS);
+    if can_make(left, entries, twice) {
+        return Some(twice);
+    }
+    let more = (needed + needed / 4).min(MOST_KEYS);
+    if can_make(left, entries, more) {
+        Some(more)
+    } else {
+        None
+    }
+}
+
+/// Whether a map with so much room can be made within so many bytes, beside one of so many entries.
+fn can_make(left: usize, entries: usize, room: usize) -> bool
+    requires { room ≤ MOST_KEYS }
+    ensures { IsTrue result ↔ (bytes_to_make room entries ≤ left) }
+{
+    match (left / MAKING).checked_sub(shape_for(room).words()) {
+        Some(left) => entries <= left,
+        None => false,
     }
 }
 
@@ -153,6 +295,8 @@ fn renew(alloc: Global, handle: &mut Handle, shape: Shape) -> Result<(), Program
     ensures logs { OnOk result (HaveOneLog handle.new) }
     ensures same { OnOk result (held handle.new.seat ≡ held handle.old.seat) }
     ensures shape { OnOk result (handle.new.map.chain.shape ≡ shape) }
+    ensures full { result ≡ Err fault.FullOfLines
+        → HasTooMany shape handle.old ⊎ (IsWhole handle.old → ⊥) }
 {
     match handle.renew(alloc, shape) {
         Ok(()) => Ok(()),
@@ -310,6 +454,8 @@ fn put<R: Wait>(
     ensures rest { KeepsRest handle.old handle.new }
     ensures found { IfOk result (HasFound (put_if_absent_of key number)
         handle.old.seat handle.new.seat) }
+    ensures full { OnErr result (IsCrowded handle.old.map.chain.shape handle.new.seat.chain.seen
+        key) }
 {
     match handle.put_if_absent(rt, key, number) {
         Ok(found) => Ok(found),
@@ -319,7 +465,8 @@ fn put<R: Wait>(
 
 /// A place as a value number.
 fn number_of(place: usize) -> Result<Num, ProgramFault>
-    ensures { IfOk result (λ number. number ≡ place) }
+    ensures same { IfOk result (λ number. number ≡ place) }
+    ensures full { OnErr result (2 ^ 60 ≤ place) }
 {
     match Num::new(place as u64) {
         Ok(number) => Ok(number),

@@ -1,6 +1,6 @@
 //! Hashes of texts, and the keys under which a text of a hash is looked for.
 ghost use Rattle.std.specs.Prelude.{◌≡◌};
-ghost use Rattle.nb_texts.specs.Hashes.{hash_of, key_after};
+ghost use Rattle.nb_texts.specs.Hashes.{hash_of, hashing_of, key_after};
 
 use core::hash::keyed_hasher;
 use nb_core::Key;
@@ -20,12 +20,16 @@ pub struct Hashing {
 impl Hashing {
     /// The hash function of a seed. So many bits of a hash count, 64 at most: with few of them many
     /// texts share a hash, for tests.
-    pub fn new(seed: u64, bits: u32) -> Hashing {
+    pub fn new(seed: u64, bits: u32) -> Hashing
+        ensures { result ≡ hashing_of seed bits }
+    {
+        let mask = match 2_u64.checked_pow(bits) {
+            Some(end) => end.saturating_sub(1),
+            None => u64::MAX,
+        };
         Hashing {
             hasher: keyed_hasher(seed, SECOND),
-            mask: u64::MAX
-                .checked_shr(64_u32.saturating_sub(bits))
-                .unwrap_or(0),
+            mask,
         }
     }
 

@@ -3,22 +3,24 @@
 //! A [`Catalog`] has the distinct lines of what was entered, in the order of their first coming. A
 //! line is found by its keyed hash in a map, and is compared byte for byte, so lines of one hash are
 //! kept apart. The map is made anew, larger, before a block of lines might not find room. A
-//! [`LineSource`] reads an input in blocks of whole lines.
+//! [`MemoryLimit`] bounds what is kept. A [`LineSource`] reads an input in blocks of whole lines.
 #![tactic(auto)]
 
 mod catalog;
 mod clues;
 mod hashing;
 mod lines;
+mod memory;
 mod plan;
 mod source;
 mod tally;
 mod texts;
 
-pub use catalog::Catalog;
+pub use catalog::{CATALOG_EACH, Catalog};
 pub use hashing::Hashing;
 pub use lines::split_line;
+pub use memory::{Load, MemoryLimit, Taken};
 pub use plan::LinePlan;
 pub use source::LineSource;
-pub use tally::{LineTally, Row};
+pub use tally::{LineTally, Row, TALLY_EACH};
 pub use texts::Texts;

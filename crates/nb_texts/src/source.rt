@@ -8,9 +8,6 @@ use nb_lines::{Done, ProgramFault};
 use std::alloc::Global;
 use std::io::{ErrorKind, Read};
 
-/// How many bytes are asked for at once.
-const AHEAD: usize = 1 << 20;
-
 /// What a read came to.
 #[derive(Clone, Copy)]
 pub(crate) enum Turn {
@@ -31,14 +28,15 @@ pub struct LineSource {
 }
 
 impl LineSource {
-    /// Nothing was read.
-    pub fn new(alloc: Global) -> Result<LineSource, ProgramFault>
-        ensures { IfOk result (λ source. source.rest.items ≡ []) }
+    /// Nothing was read. So many bytes will be asked for at once, 1 at least.
+    pub fn new(alloc: Global, ahead: usize) -> Result<LineSource, ProgramFault>
+        ensures rest { IfOk result (λ source. source.rest.items ≡ []) }
+        ensures room { IfOk result (λ source. length source.room.items ≡ ahead) }
     {
         Ok(LineSource {
             block: Vec::new(alloc),
             rest: Vec::new(alloc),
-            room: vec![in alloc; 0_u8; AHEAD]?,
+            room: vec![in alloc; 0_u8; ahead]?,
         })
     }
 

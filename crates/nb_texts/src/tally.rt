@@ -1,13 +1,19 @@
 //! How often each line comes.
-ghost use Rattle.std.specs.Prelude.{◌≡◌, ◌+◌, ◌<◌, ◌++◌, ◌==◌, ℕ, List, [], OnOk, count_by, length, slice_index};
-ghost use Rattle.nb_texts.specs.Lines.{lines_in};
+ghost use Rattle.std.specs.Bool.{OnFalse, OnTrue};
+ghost use Rattle.std.specs.Prelude.{◌≡◌, ◌+◌, ◌<◌, ◌≤◌, ◌++◌, ◌==◌, ℕ, List, [], IfOk, OnOk, count_by, length, min, slice_index};
+ghost use Rattle.nb_core.specs.declared.shapes.TheConstants.{MOST_KEYS};
+ghost use Rattle.nb_texts.specs.Lines.{lines_in, with_new_lines};
 ghost use Rattle.nb_texts.specs.Tallies.{IsTally};
 
 use crate::catalog::Catalog;
+use crate::memory::{Load, MemoryLimit};
 use nb_lines::ProgramFault;
 use std::alloc::Global;
 use std::sync::Wait;
 use std::thread::Threads;
+
+/// How many bytes a tally keeps for a line beside its own: its place, its count, and its row.
+pub const TALLY_EACH: usize = 56;
 
 /// A line, with how often it came, and how many others came first before it.
 #[derive(Clone, Copy, PartialEq, Eq, PartialOrd, Ord)]
@@ -27,6 +33,8 @@ pub struct LineTally {
 
 impl LineTally {
     ghost use Rattle.nb_texts.specs.Catalogs.{IsAtRest};
+    ghost use Rattle.nb_texts.specs.Memory.{TellsWhetherFits};
+    ghost use Rattle.nb_texts.specs.Rows.{AreRowsOf};
 
     /// Nothing was entered in a catalog that has no lines.
     pub fn new(alloc: Global, catalog: Catalog) -> LineTally
@@ -40,40 +48,67 @@ impl LineTally {
     }
 
     /// The lines, in the order of their first coming.
-    pub fn rows(&self, alloc: Global) -> Result<Vec<Row<'_>>, ProgramFault> {
-        let mut rows = Vec::new(alloc);
+    pub fn rows(&self, alloc: Global) -> Result<Vec<Row<'_>>, ProgramFault>
+        requires { length self.now.counts.items ≡ length self.now.catalog.texts }
+        ensures { IfOk result (λ rows.
+            AreRowsOf self.now.catalog.texts self.now.counts.items rows.items) }
+    {
+        let mut rows = Vec::with_capacity(alloc, self.counts.len())?;
         for (place, times) in self.counts.iter().enumerate() {
-            if let Some(line) = self.catalog.get(place) {
-                let times = *times;
-                rows.push(Row { line, times, place })?;
-            }
+            let Some(line) = self.catalog.get(place) else {
+                unreachable!();
+            };
+            let times = *times;
+            rows.push(Row { line, times, place })?;
         }
         Ok(rows)
     }
 
-    /// Enters the lines of a block, of which there are no more than so many, and counts them. Several
-    /// workers hash them.
+    /// Makes room for a block of new lines, and answers whether they fit within a limit:
+    /// [`Catalog::make_room_within`].
+    pub fn make_room_within(
+        &mut self,
+        alloc: Global,
+        limit: Option<MemoryLimit>,
+        block: Load,
+    ) -> Result<bool, ProgramFault>
+        requires rest { IsAtRest self.old.catalog }
+        ensures rest { OnOk result (IsAtRest self.new.catalog) }
+        ensures room { IfOk result (λ fits. OnTrue fits
+            (min (length self.new.catalog.texts + block.lines) MOST_KEYS ≤ self.new.catalog.room)) }
+        ensures texts { self.new.catalog.texts ≡ self.old.catalog.texts }
+        ensures counts { self.new.counts ≡ self.old.counts }
+        ensures fits { IfOk result (TellsWhetherFits limit self.new.catalog block) }
+        ensures back { IfOk result (λ fits. OnFalse fits (self.new.catalog ≡ self.old.catalog)) }
+    {
+        self.catalog.make_room_within(alloc, limit, block)
+    }
+
+    /// Enters the lines of a block, counts them, and answers how many there are. Several workers hash
+    /// them. For each line that isn't there yet the catalog needs room.
     pub fn enter<R: Threads + Sync + Wait>(
         &mut self,
         rt: &R,
         alloc: Global,
         block: &[u8],
-        most: usize,
         workers: usize,
-    ) -> Result<(), ProgramFault>
+    ) -> Result<usize, ProgramFault>
         requires rest { IsAtRest self.old.catalog }
         ensures rest { OnOk result (IsAtRest self.new.catalog) }
+        ensures lines { IfOk result (λ lines. lines ≡ length (lines_in block.now)) }
+        ensures texts { OnOk result (self.new.catalog.texts
+            ≡ with_new_lines self.old.catalog.texts (lines_in block.now)) }
+        ensures map { OnOk result (self.new.catalog.handle.map ≡ self.old.catalog.handle.map) }
         ensures tally { OnOk result ((lines : List (List ℕ))
             → IsTally lines self.old.catalog.texts self.old.counts.items
             → IsTally (lines ++ lines_in block.now) self.new.catalog.texts
             self.new.counts.items) }
     {
-        self.catalog.make_room(alloc, most)?;
         let places = self.catalog.enter(rt, alloc, block, workers)?;
         let many = self.catalog.len();
         pad(&mut self.counts, many)?;
         count(&mut self.counts, places.as_slice())?;
-        Ok(())
+        Ok(places.len())
     }
 }
 

@@ -1,5 +1,5 @@
 //! Texts one behind another, which only grow.
-ghost use Rattle.std.specs.Prelude.{◌≡◌, ◌↔◌, ◌++◌, ◌∷◌, [], IfOk, IsTrue, MatchOption, None, OnOk, Some, drop, length, slice_get};
+ghost use Rattle.std.specs.Prelude.{◌≡◌, ◌↔◌, ◌++◌, ◌∷◌, [], IfOk, IsTrue, MatchOption, None, OnErr, OnOk, Some, drop, length, slice_get, sum_by};
 ghost use Rattle.nb_texts.specs.Lines.{text_of_lines};
 
 use nb_core::OutOfMemory;
@@ -22,13 +22,13 @@ pub struct Texts {
 
 impl Model for Texts {
     ghost use Rattle.std.specs.Prelude.{ℕ, List};
-    ghost use Rattle.nb_texts.specs.Places.{AreWithin, texts_at};
+    ghost use Rattle.nb_texts.specs.Places.{AreLaidOut, texts_at};
 
     ghost Value = { List (List ℕ) };
 
     ghost view = { λ texts. texts_at texts.bytes.items texts.places.items };
 
-    ghost invariant = { λ texts. AreWithin texts.bytes.items texts.places.items };
+    ghost invariant = { λ texts. AreLaidOut texts.bytes.items texts.places.items };
 }
 
 impl Texts {
@@ -48,14 +48,32 @@ impl Texts {
         self.places.len()
     }
 
-    /// Puts a text behind the others. Where memory is refused, they are as they were.
-    pub fn push(&mut self, text: &[u8]) -> Result<(), OutOfMemory>
-        ensures { OnOk result (self.new ≡ self.old ++ text.now ∷ []) }
+    /// How many bytes they have.
+    pub fn bytes(&self) -> usize
+        ensures { result ≡ sum_by length self.now }
     {
+        self.bytes.len()
+    }
+
+    /// Takes room for so many bytes, and so many texts, so that those that come don't move the others.
+    pub fn reserve(&mut self, bytes: usize, texts: usize) -> Result<(), OutOfMemory>
+        ensures { self.new ≡ self.old }
+    {
+        self.bytes.reserve(bytes)?;
+        self.places.reserve(texts)?;
+        Ok(())
+    }
+
+    /// Puts a text behind the others.
+    pub fn push(&mut self, text: &[u8]) -> Result<(), OutOfMemory>
+        ensures put { OnOk result (self.new ≡ self.old ++ text.now ∷ []) }
+        ensures kept { OnErr result (self.new ≡ self.old) }
+    {
+        self.places.reserve(1)?;
         let start = self.bytes.len();
         self.bytes.extend_from_slice(text)?;
         let end = self.bytes.len();
-        self.places.push(Place { start, end })?;
+        self.places.push_reserved(Place { start, end });
         Ok(())
     }
 

@@ -80,12 +80,14 @@ fn fault_texts_of_programs(rt: HostRuntime) -> Result<(), Fail> {
         ProgramFault::Line(12, Cause::TooLong),
         ProgramFault::Full,
         ProgramFault::TooOften,
+        ProgramFault::MemoryLimit(12),
         ProgramFault::Unshown,
         ProgramFault::OutOfMemory,
     ];
     let text = "a word isn't text; --help tells more\nout of memory\nbad usage; --help tells more\n\
         read failed\nwrite failed\nline 12: line too long\n\
         more different numbers than there is room for\na number comes too often\n\
+        stopped behind line 12: more may not fit within --memory\n\
         a value isn't shown\nout of memory\n";
     assert_said(&rt, rt.alloc(), &faults, text)?;
     let help = String::from_str(rt.alloc(), "a help\n")?;

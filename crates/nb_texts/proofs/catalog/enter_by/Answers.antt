@@ -1,8 +1,7 @@
-use Rattle.std.proofs.Common.{◌≡◌, [], Some, append-nil, refl, subst, sym}
+use Rattle.std.proofs.Common.{◌≡◌, [], Some, append-nil, subst, sym}
 use Rattle.std.specs.Prelude.{slice_get}
 use Rattle.nb_texts.specs.Clues.{IsClueTo}
 use Rattle.nb_texts.specs.Hashes.{key_for}
-use Rattle.nb_texts.specs.declared.clues.Clue.TheVariants.{Place}
 use Rattle.nb_texts.proofs.FindingLemmas.{entered-known}
 use Rattle.nb_texts.proofs.catalog.enter_by.Goals as goal
 

@@ -26,9 +26,9 @@ returns-in-None-clause-entered g c =
     let found : P (keys line now.tries) None
     = subst₂ P (c.key_after.ensures ∙ ap (λ hash. key_after hash now.tries) c.requires) c.in-None.is
     c.in_ok-put.ensures.found in
-    let last : c.in_ok-number.number ≡ length texts = c.in_ok-number.ensures ∙ c.len-place.ensures in
+    let last : c.in_ok-number.number ≡ length texts = c.in_ok-number.ensures.same ∙ c.len-place.ensures in
     let pushed : texts ++ line ∷ [] ≡ c.push.new.self
-    = ap (λ texts. texts ++ line ∷ []) (sym now.invariant.1) ∙ sym c.in_ok-push-in-None.ensures in
+    = ap (λ texts. texts ++ line ∷ []) (sym now.invariant.1) ∙ sym c.in_ok-push-in-None.ensures.put in
     subst (λ texts'. HasEntered keys c.args.handle.now.seat c.put.new.handle.seat texts texts' (line ∷ []))
     pushed (entered-new keys c.args.handle.now.seat now.handle.seat c.put.new.handle.seat texts line
     now.tries c.in_ok-number.number now.invariant.2 found last)
@@ -37,7 +37,7 @@ pub returns-in-None-clause-placed : goal.returns-in-None-clause-placed
 returns-in-None-clause-placed g c =
     let texts = c.args.texts.now in
     let line = c.args.line.now in
-    ap (λ texts. slice_get texts c.len-place.result) (c.in_ok-push-in-None.ensures
+    ap (λ texts. slice_get texts c.len-place.result) (c.in_ok-push-in-None.ensures.put
     ∙ ap (λ texts. texts ++ line ∷ []) c.loop-tries.invariant.1)
     ∙ ap (slice_get (texts ++ line ∷ [])) c.len-place.ensures ∙ get-last texts line
 
@@ -89,7 +89,7 @@ loop-tries-preserved g c =
 pub returns-in-None-clause-grown : goal.returns-in-None-clause-grown
 returns-in-None-clause-grown g c = (
   c.args.line.now ∷ [],
-  c.in_ok-push-in-None.ensures
+  c.in_ok-push-in-None.ensures.put
       ∙ ap (λ texts. texts ++ c.args.line.now ∷ []) c.loop-tries.invariant.1,
 )
 

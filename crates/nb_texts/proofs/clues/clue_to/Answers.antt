@@ -1,4 +1,3 @@
-use Rattle.std.proofs.Common.{None, Some}
 use Rattle.nb_texts.proofs.ClueLemmas.{looked-once}
 use Rattle.nb_texts.proofs.clues.clue_to.Goals as goal
 

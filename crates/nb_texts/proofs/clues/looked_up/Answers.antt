@@ -1,4 +1,4 @@
-use Rattle.std.proofs.Common.{[], ap, arith, refl}
+use Rattle.std.proofs.Common.{ap, arith}
 use Rattle.std.proofs.lemmas.Bool.Decides.{nat_tests}
 use Rattle.std.proofs.lemmas.List.{nil_from_length}
 use Rattle.nb_texts.specs.Lines.{lines_in}

@@ -46,3 +46,7 @@ returns-clause-lines g c =
     c.in_ok-readers.ensures.parted c.in_ok-found.ensures.looked c.in_ok-places.ensures.rest
     c.in_ok-places.ensures.entered settled.1 c.requires.rest.index in
     done.2
+
+pub returns-clause-map : goal.returns-clause-map
+returns-clause-map g c =
+    c.in_ok-gather.ensures.map ∙ c.in_ok-places.ensures.rest.map ∙ c.parted.ensures.same.0

@@ -14,9 +14,9 @@ returns-clause-rest c =
     record {
       logs = one-log [] handle.seat handle.reserve c.in_ok-handle.ensures.empty;
       index =
-          subst (λ texts. IsIndex keys texts (held handle.seat)) (sym c.new.ensures)
+          subst (λ texts. IsIndex keys texts (held handle.seat)) (sym c.texts_for.ensures)
           (index-none keys (held handle.seat));
       room =
           subst (λ p. HasRoomFor p c.min-room.result) (sym c.in_ok-handle.ensures.made.shape)
-          c.shape_for.ensures;
+          c.shape_for.ensures.room;
     }

@@ -11,8 +11,7 @@ returns-clause-tally g c = λ lines tally.
     let texts' = c.enter.new.self.texts in
     let counts' = c.count.new.counts.items in
     let entered : texts' ≡ with_new_lines texts block
-    = c.in_ok-places.ensures.lines
-    ∙ ap (λ texts. with_new_lines texts block) c.in_ok-make_room.ensures.same in
+    = c.in_ok-places.ensures.lines in
     let many : length counts' ≡ length texts'
     = c.in_ok-count.ensures.many ∙ c.in_ok-pad.ensures.many ∙ c.len-many.ensures in
     tally-more lines texts block texts' c.args.self.now.counts.items counts' c.in_ok-places.places.items

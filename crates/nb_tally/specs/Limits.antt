@@ -1,0 +1,30 @@
+-- What is counted of an input under a limit of memory.
+use Rattle.std.specs.Prelude.{◌≡◌, ◌==◌, ◌+◌, ◌<◌, ◌≤◌, ◌++◌, ℕ, List, Option, count_by, drop, length, take}
+use Rattle.nb_texts.specs.Lines.{lines_in}
+use Rattle.nb_texts.specs.Memory.{most_bytes_with}
+use Rattle.nb_texts.specs.Tallies.{IsTally}
+use Rattle.nb_texts.specs.declared.catalog.Catalog.{Catalog}
+use Rattle.nb_texts.specs.declared.memory.Load.{Load}
+use Rattle.nb_texts.specs.declared.memory.MemoryLimit.{MemoryLimit}
+use Rattle.nb_tally.specs.Fields.{counted_of}
+use Rattle.nb_tally.specs.declared.fields.Column.{Column}
+
+-- so many lines of the input, from the first one on, were counted
+pub record IsTallyOfFirst (column : Option Column) (input : List ℕ) (lines : ℕ)
+    (texts : List (List ℕ)) (counts : List ℕ) : Type 0 where
+  pub within : lines ≤ length (lines_in input)
+  pub tally : IsTally (counted_of column (take lines (lines_in input))) texts counts
+
+-- behind so many lines a block comes that might not fit within the limit, if what is counted of it is
+-- new
+pub record MayNotFit (column : Option Column) (limit : MemoryLimit) (input : List ℕ) (lines : ℕ)
+    (catalog : Catalog) : Type 0 where
+  pub block : List ℕ
+  pub rest : List ℕ
+  pub next : drop lines (lines_in input) ≡ lines_in block ++ lines_in rest
+  pub counted : List ℕ
+  pub are : lines_in counted ≡ counted_of column (lines_in block)
+  pub load : Load
+  pub few : load.lines ≤ count_by (λ byte. byte == 10) block + 1
+  pub bytes : load.bytes ≡ length counted
+  pub over : limit.bytes < most_bytes_with limit.each catalog load
