@@ -1,2 +1,5 @@
 -- The definitions that the contracts cite.
 pub mod Crews
+pub mod Keys
+pub mod Pages
+pub mod Replies

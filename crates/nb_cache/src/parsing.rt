@@ -1,5 +1,6 @@
 //! Parsing: each line of a block is read once, by one of the workers.
 
+use crate::options::{KeyForm, Plan};
 use crate::trace::{Request, read_request};
 use nb_core::{MAX_SEATS, OutOfMemory};
 use nb_lines::{Cause, Lines, ProgramFault};
@@ -13,6 +14,8 @@ pub(crate) struct Part<'a> {
     text: &'a [u8],
     /// For each worker the requests at its keys, in the order of their lines.
     pub(crate) requests: Vec<Vec<Request<'a>>>,
+    /// How many lines come before it.
+    pub(crate) first: u64,
     /// How many lines were read.
     lines: u64,
     /// What is wrong with the next line, or that memory ran out at it.
@@ -48,21 +51,22 @@ impl<'a> Part<'a> {
         Ok(Part {
             text,
             requests,
+            first: 0,
             lines: 0,
             stopped: None,
         })
     }
 
     /// Reads its lines, up to the first one that is broken.
-    fn parse(&mut self) {
-        if let Err(stop) = self.parse_lines() {
+    fn parse(&mut self, form: KeyForm) {
+        if let Err(stop) = self.parse_lines(form) {
             self.stopped = Some(stop);
         }
     }
 
-    fn parse_lines(&mut self) -> Result<(), Stop> {
+    fn parse_lines(&mut self, form: KeyForm) -> Result<(), Stop> {
         for line in Lines::new(self.text) {
-            self.keep(read_request(line)?)?;
+            self.keep(read_request(form, line, self.lines)?)?;
             self.lines = self.lines.wrapping_add(1);
         }
         Ok(())
@@ -72,7 +76,7 @@ impl<'a> Part<'a> {
     /// key's is divided by the number of workers.
     fn keep(&mut self, request: Request<'a>) -> Result<(), OutOfMemory> {
         let workers = self.requests.len().max(1) as u64;
-        let owner = (request.number % workers) as usize;
+        let owner = (request.key.number % workers) as usize;
         if let Some(requests) = self.requests.get_mut(owner) {
             requests.push(request)?;
         }
@@ -114,33 +118,34 @@ fn parts_of(alloc: Global, text: &[u8], workers: usize) -> Result<Vec<Part<'_>>,
     Ok(parts)
 }
 
-/// Reads all lines of a block behind so many other lines of a trace, by so many workers at the same
-/// time. The first broken line is told.
+/// Reads all lines of a block behind so many other lines of a trace, by all workers at the same time.
+/// The first broken line is told.
 pub(crate) fn parsed<'a, R: Threads + Sync>(
     rt: &R,
     alloc: Global,
     text: &'a [u8],
-    workers: usize,
+    plan: Plan,
     before: u64,
 ) -> Result<Trace<'a>, ProgramFault> {
-    let mut parts = parts_of(alloc, text, workers)?;
+    let mut parts = parts_of(alloc, text, plan.workers)?;
     thread::for_each_mut(
         rt,
         parts.as_mut_slice(),
         MAX_SEATS,
-        &|_number: usize, part: &mut Part<'_>| { part.parse() },
+        &|_number: usize, part: &mut Part<'_>| { part.parse(plan.form) },
     );
-    let mut lines = 0u64;
-    for part in parts.iter() {
-        lines = lines.wrapping_add(part.lines);
+    let mut end = before;
+    for part in parts.iter_mut() {
+        part.first = end;
+        end = end.wrapping_add(part.lines);
         match part.stopped {
             None => {}
             Some(Stop::Line(cause)) => {
-                let line = before.wrapping_add(lines).wrapping_add(1);
-                return Err(ProgramFault::Line(line, cause));
+                return Err(ProgramFault::Line(end.wrapping_add(1), cause));
             }
             Some(Stop::OutOfMemory) => return Err(ProgramFault::OutOfMemory),
         }
     }
+    let lines = end.wrapping_sub(before);
     Ok(Trace { parts, lines })
 }

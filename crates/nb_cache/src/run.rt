@@ -3,15 +3,20 @@ ghost use Rattle.std.specs.Prelude.{◌≡◌, ◌<◌, IfOk};
 ghost use Rattle.nb_cache.specs.Crews.{AreAll};
 ghost use Rattle.nb_long.specs.Handles.{IsWhole, KeepsRest};
 
+use crate::calls::{Counts, Worker};
+use crate::options::Plan;
+use crate::pages::Page;
 use crate::parsing::Trace;
-use crate::replaying::{Block, Counts, Page, Replayed, Worker, replay_block};
+use crate::replaying::{Block, replay_block};
+use crate::replies::Reply;
 use nb_core::OutOfMemory;
-use nb_lines::{ProgramFault, ProgressMeter};
+use nb_lines::ProgramFault;
 use nb_long::Handle;
 use std::alloc::Global;
+use std::io::Write;
 use std::sync::{Mutex, Wait};
-use std::thread;
 use std::thread::Threads;
+use std::{io, thread};
 
 /// The state of a run.
 #[derive(Drop)]
@@ -19,8 +24,7 @@ pub(crate) struct Run {
     /// What came of each worker's calls. Its worker alone takes the lock, and the program where no
     /// worker is at work.
     workers: Vec<Mutex<Worker>>,
-    tells_replies: bool,
-    progress: ProgressMeter,
+    pub(crate) plan: Plan,
     /// How many lines were read.
     pub(crate) lines: u64,
     /// How many texts that were put were freed.
@@ -28,20 +32,14 @@ pub(crate) struct Run {
 }
 
 impl Run {
-    pub(crate) fn new(
-        alloc: Global,
-        workers: usize,
-        tells_replies: bool,
-        progress: ProgressMeter,
-    ) -> Result<Run, OutOfMemory> {
-        let mut all = Vec::with_capacity(alloc, workers)?;
-        for _worker in 0..workers {
-            all.push(Mutex::new(Worker::new(alloc)))?;
+    pub(crate) fn new(alloc: Global, plan: Plan) -> Result<Run, OutOfMemory> {
+        let mut workers = Vec::with_capacity(alloc, plan.workers)?;
+        for number in 0..plan.workers {
+            workers.push(Mutex::new(Worker::new(alloc, number, plan.tells_replies)))?;
         }
         Ok(Run {
-            workers: all,
-            tells_replies,
-            progress,
+            workers,
+            plan,
             lines: 0,
             freed: 0,
         })
@@ -63,7 +61,7 @@ impl Run {
         let Ok(mut handles) = cache.split_all(alloc) else {
             return Err(ProgramFault::OutOfMemory);
         };
-        let block = Block::new(trace, self.tells_replies, self.lines, self.progress);
+        let block = Block::new(trace, self.plan, self.lines);
         self.lines = block.lines();
         work_at(
             rt,
@@ -91,22 +89,42 @@ impl Run {
     pub(crate) fn counts(&mut self) -> Counts {
         let mut counts = Counts::NOTHING;
         for worker in self.workers.iter_mut() {
-            counts = counts.with(worker.get_mut().replayed.counts);
+            counts = counts.with(worker.get_mut().counts);
         }
         counts
     }
 
-    /// What came of the run, worker by worker.
-    pub(crate) fn gathered(self, alloc: Global) -> Result<Replayed, OutOfMemory> {
-        let mut run = self;
-        let mut replies = Vec::new(alloc);
-        for worker in run.workers.iter_mut() {
-            replies.extend_from_slice(worker.get_mut().replayed.replies.as_slice())?;
+    /// Writes what the gets of a block found, in the order of their lines, and forgets it.
+    pub(crate) fn write_replies<W: Write>(
+        &mut self,
+        alloc: Global,
+        writer: &mut W,
+    ) -> Result<(), ProgramFault> {
+        let mut all = Vec::new(alloc);
+        for worker in self.workers.iter_mut() {
+            all.extend_from_slice(worker.get_mut().replies.places.as_slice())?;
         }
-        Ok(Replayed {
-            counts: run.counts(),
-            replies,
-        })
+        if all.is_empty() {
+            return Ok(());
+        }
+        all.sort_unstable();
+        if self.write_all(all.as_slice(), writer).is_err() {
+            return Err(ProgramFault::Write);
+        }
+        for worker in self.workers.iter_mut() {
+            worker.get_mut().replies.clear();
+        }
+        Ok(())
+    }
+
+    /// Writes these replies, in their order, at once.
+    fn write_all<W: Write>(&mut self, replies: &[Reply], writer: &mut W) -> io::Result<()> {
+        for reply in replies {
+            if let Some(worker) = self.workers.get_mut(reply.worker) {
+                writer.write_all(worker.get_mut().replies.line_of(*reply))?;
+            }
+        }
+        writer.flush()
     }
 }
 
