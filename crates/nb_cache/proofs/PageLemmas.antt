@@ -8,7 +8,10 @@ use Rattle.nb_core.specs.Log.{reply_at}
 use Rattle.nb_core.specs.declared.calls.Call.TheVariants as call
 use Rattle.nb_long.specs.Handles.{HandleOf, IsSameMap}
 use Rattle.nb_map.specs.Logs.{HasReplied}
-use Rattle.nb_cache.specs.Pages.{HasFoundText, IsTextFound, text_for}
+use Rattle.nb_map.specs.NamedCalls.{remove_of}
+use Rattle.nb_map.specs.Progress.{Unlimited}
+use Rattle.nb_map.specs.Promises.{Found, HasWritten}
+use Rattle.nb_cache.specs.Pages.{HasDropped, HasFoundText, IsTextFound, text_for}
 use Rattle.nb_cache.specs.Replies.{reply_line}
 use Rattle.nb_cache.specs.declared.pages.Page.{Page}
 use Rattle.nb_cache.specs.declared.replies.Replies.{Replies}
@@ -108,3 +111,31 @@ reply-told number name before now after text same said told =
     (after.text.items ≡ before.text.items ++ reply_line number name None)
     (λ text. after.text.items ≡ before.text.items ++ reply_line number name (Some text.now))))
     told here)
+
+-- ---- a text that is too large
+
+pub dropped-there :
+    (place : ℕ) (name : List ℕ) (before between after : HandleOf) (text : Option (Bor (List ℕ)))
+    (number : Option ℕ) → HasFoundText place name before between (text_now text)
+    → is_some text ≡ true
+    → HasWritten between.map.map (remove_of place) between.seat after.seat Unlimited (Found number)
+    → HasDropped place name before after
+dropped-there place name before between after None number looked wrong wrote = absurd cc
+dropped-there place name before between after (Some text) number looked there wrote = record {
+  found = Some text.now;
+  between = between;
+  looked = looked;
+  gone = (number, wrote);
+}
+
+pub dropped-none :
+    (place : ℕ) (name : List ℕ) (before between after : HandleOf) (text : Option (Bor (List ℕ)))
+    → HasFoundText place name before between (text_now text) → is_some text ≡ false
+    → after ≡ between → HasDropped place name before after
+dropped-none place name before between after None looked missed same = record {
+  found = None;
+  between = between;
+  looked = looked;
+  gone = same;
+}
+dropped-none place name before between after (Some text) looked wrong same = absurd cc

@@ -1,4 +1,5 @@
 -- The definitions that the contracts cite.
+pub mod Ages
 pub mod Crews
 pub mod Keys
 pub mod Pages

@@ -1,5 +1,5 @@
 -- Pages: texts under their keys, and what is found of them.
-use Rattle.std.specs.Prelude.{◌≡◌, ℕ, List, None, Ok, Option, Some, if◌then◌else◌}
+use Rattle.std.specs.Prelude.{◌≡◌, ℕ, List, MatchOption, None, Ok, Option, Some, if◌then◌else◌}
 use Rattle.boxcar.specs.Table.{Shelves, Shows, Where}
 use Rattle.core.specs.Str.{bytes_eq}
 use Rattle.nb_core.specs.Log.{reply_at}
@@ -9,8 +9,11 @@ use Rattle.nb_long.specs.Handles.{HandleOf}
 use Rattle.nb_long.specs.Promises.{HasPutValue}
 use Rattle.nb_long.specs.declared.map.Stored.{Stored}
 use Rattle.nb_map.specs.Logs.{HasReplied}
+use Rattle.nb_map.specs.NamedCalls.{remove_of}
+use Rattle.nb_map.specs.Progress.{Unlimited}
+use Rattle.nb_map.specs.Promises.{Found, HasWritten}
 use Rattle.nb_cache.specs.declared.pages.Page.{Page}
-use Rattle.nb_cache.specs.declared.trace.Action.TheVariants.{Get, Put}
+use Rattle.nb_cache.specs.declared.trace.Action.TheVariants.{Get, Put, PutTooLarge}
 use Rattle.nb_cache.specs.declared.trace.Action.{Action}
 
 -- the page's text, where it is this key's page
@@ -42,8 +45,19 @@ pub record HasPutText (place : ℕ) (name text : List ℕ) (before after : Handl
   pub stored : Stored Page
   pub wrote : HasPutValue before.map place want.Any page before.seat after.seat (Ok stored)
 
+-- The text that was found of the key is taken out by one call; or none was found, and nothing else was
+-- called for.
+pub record HasDropped (place : ℕ) (name : List ℕ) (before after : HandleOf) : Type 0 where
+  pub found : Option (List ℕ)
+  pub between : HandleOf
+  pub looked : HasFoundText place name before between found
+  pub gone :
+      MatchOption found (after ≡ between) (λ _. (number : Option ℕ)
+      × HasWritten between.map.map (remove_of place) between.seat after.seat Unlimited (Found number))
+
 -- What a line asks for is done at the place.
 abbrev pub IsDone : Action → (place : ℕ) → (name : List ℕ) → (before after : HandleOf) → Type 0
 IsDone Get place name before after =
     (found : Option (List ℕ)) × HasFoundText place name before after found
 IsDone (Put text) place name before after = HasPutText place name text.now before after
+IsDone PutTooLarge place name before after = HasDropped place name before after

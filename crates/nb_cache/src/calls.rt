@@ -1,7 +1,7 @@
 //! The calls of the cache: a key's text is got, or put.
 ghost use Rattle.std.specs.Prelude.{◌≡◌, ◌+◌, ◌%◌, ◌^◌, ◌&&◌, ◌++◌, ℕ, IfOk, IsTrue, List, MatchOption, None, OnOk, Option, Ok, Some, if◌then◌else◌, is_none, is_some};
 ghost use Rattle.nb_long.specs.Handles.{KeepsRest};
-ghost use Rattle.nb_cache.specs.Pages.{HasFoundText, HasPutText, IsTextFound};
+ghost use Rattle.nb_cache.specs.Pages.{HasDropped, HasFoundText, HasPutText, IsTextFound};
 ghost use Rattle.nb_cache.specs.Replies.{reply_line};
 
 use crate::pages::Page;
@@ -22,8 +22,10 @@ pub(crate) struct Counts {
     pub(crate) puts: u64,
     /// The keys whose texts gets find.
     pub(crate) keys: u64,
-    /// The texts that were lost to other keys' texts.
+    /// The texts that were lost to other keys' texts, or were too large.
     pub(crate) evicted: u64,
+    /// What the texts are counted for that were stored.
+    pub(crate) stored: u64,
 }
 
 impl Counts {
@@ -34,6 +36,7 @@ impl Counts {
         puts: 0,
         keys: 0,
         evicted: 0,
+        stored: 0,
     };
 
     /// What two workers counted.
@@ -44,6 +47,7 @@ impl Counts {
             puts: self.puts.wrapping_add(other.puts),
             keys: self.keys.wrapping_add(other.keys),
             evicted: self.evicted.wrapping_add(other.evicted),
+            stored: self.stored.wrapping_add(other.stored),
         }
     }
 }
@@ -52,6 +56,8 @@ impl Counts {
 #[derive(Drop)]
 pub(crate) struct Worker {
     pub(crate) counts: Counts,
+    /// The number of the line that it is at.
+    pub(crate) line: u64,
     /// What its gets found in the block.
     pub(crate) replies: Replies,
     /// Why it stopped early.
@@ -63,6 +69,7 @@ impl Worker {
     pub(crate) fn new(alloc: Global, number: usize, tells_replies: bool) -> Worker {
         Worker {
             counts: Counts::NOTHING,
+            line: 0,
             replies: Replies::new(alloc, number, tells_replies),
             fault: None,
         }
@@ -76,7 +83,6 @@ pub(crate) fn get(
     handle: &mut Handle<Page>,
     place: Key,
     key: TraceKey<'_>,
-    line: u64,
 ) -> Result<(), ProgramFault>
     ensures rest { KeepsRest handle.old handle.new }
     ensures hit { OnOk result ((found : Option (List ℕ))
@@ -94,7 +100,7 @@ pub(crate) fn get(
     if found.is_some() {
         counts.hits = counts.hits.wrapping_add(1);
     }
-    worker.replies.say(line, key, found)?;
+    worker.replies.say(worker.line, key, found)?;
     Ok(())
 }
 
@@ -119,7 +125,7 @@ fn look_at<'a>(
 pub(crate) fn put<R: Wait>(
     rt: &R,
     alloc: Global,
-    counts: &mut Counts,
+    worker: &mut Worker,
     handle: &mut Handle<Page>,
     place: Key,
     key: TraceKey<'_>,
@@ -128,12 +134,14 @@ pub(crate) fn put<R: Wait>(
     ensures rest { KeepsRest handle.old handle.new }
     ensures put { OnOk result (HasPutText place key.entry.name.now text.now handle.old handle.new) }
 {
-    let page = Page::new(alloc, key.name, text)?;
+    let page = Page::new(alloc, key.name, text, worker.line)?;
+    let count = page.age().count;
     let stored = match handle.put(rt, place, page) {
         Ok(stored) => stored,
         Err(refused) => return Err(fault_of(refused)),
     };
-    count_put(counts, handle, stored.before, key.name)
+    worker.counts.stored = worker.counts.stored.wrapping_add(count);
+    count_put(&mut worker.counts, handle, stored.before, key.name)
 }
 
 /// Counts a put at a key, at whose place there was this number, or none. What was there is lost just
@@ -160,6 +168,28 @@ fn count_put(
         counts.keys = counts.keys.wrapping_add(1);
     } else if found.is_none() {
         counts.evicted = counts.evicted.wrapping_add(1);
+    }
+    Ok(())
+}
+
+/// Puts a text at a key that is too large to be kept: the cache has none at the key then.
+pub(crate) fn put_too_large<R: Wait>(
+    rt: &R,
+    counts: &mut Counts,
+    handle: &mut Handle<Page>,
+    place: Key,
+    name: &[u8],
+) -> Result<(), ProgramFault>
+    ensures rest { KeepsRest handle.old handle.new }
+    ensures dropped { OnOk result (HasDropped place name.now handle.old handle.new) }
+{
+    let number = handle.number_at(place);
+    let is_there = look_at(handle, number, name)?.is_some();
+    counts.puts = counts.puts.wrapping_add(1);
+    counts.evicted = counts.evicted.wrapping_add(1);
+    if is_there {
+        let _number = handle.remove(rt, place);
+        counts.keys = counts.keys.wrapping_sub(1);
     }
     Ok(())
 }

@@ -6,7 +6,8 @@
 //! for it. A value that was put stays in the map's store, also where its key was put again. Block
 //! after block of the trace all workers make the calls of its lines and are joined, and where more
 //! than half of the store is stale the cache is made anew with a new one, into which just the values
-//! go that gets find. So its memory depends on its keys, and not on how long the trace is.
+//! go that gets find. So its memory depends on its keys, and not on how long the trace is. Where
+//! memory has a bound, the texts that were put longest ago go, too.
 //!
 //! The map has a page at the hash of its key, with the key's bytes beside its text. A get finds the
 //! text of a page just where the page's key is its own.
@@ -15,7 +16,9 @@
 //! holds for each key, and what is printed is the same whatever the schedule.
 #![tactic(auto)]
 
+pub(crate) mod budget;
 pub(crate) mod calls;
+pub(crate) mod evicting;
 pub(crate) mod options;
 pub(crate) mod pages;
 pub(crate) mod parsing;

@@ -1,5 +1,6 @@
 //! The words of the command line.
 
+use crate::budget::Budget;
 use nb_core::Shape;
 use nb_lines::{
     Argument, CommandLine, Form, Given, MANY_KEYS, NumberWord, ProgramFault, ProgressMeter,
@@ -17,6 +18,9 @@ pub(crate) enum KeyForm {
     Numbers,
 }
 
+/// How many bytes of a trace are read at once, where memory has no bound.
+const BLOCK: usize = 1 << 22;
+
 /// How a trace is replayed.
 #[derive(Clone, Copy)]
 pub(crate) struct Plan {
@@ -26,6 +30,8 @@ pub(crate) struct Plan {
     /// Whether it is printed what each get found.
     pub(crate) tells_replies: bool,
     pub(crate) progress: ProgressMeter,
+    /// What bounds memory, if anything does.
+    pub(crate) budget: Option<Budget>,
     /// For how many different keys there has to be room.
     keys: usize,
 }
@@ -34,7 +40,19 @@ impl Plan {
     /// A map that begins small, and grows where a key isn't within a few slots of its home, up to
     /// a table with room for so many keys and more.
     pub(crate) fn shape(&self) -> Result<Shape, ProgramFault> {
-        Ok(Shape::for_keys(self.keys, self.workers)?)
+        let keys = match self.budget {
+            Some(budget) => budget.keys(),
+            None => self.keys,
+        };
+        Ok(Shape::for_keys(keys, self.workers)?)
+    }
+
+    /// How many bytes of the trace are read at once, beside the rest of the line that they end in.
+    pub(crate) fn block(&self) -> usize {
+        match self.budget {
+            Some(budget) => BLOCK.min(budget.block()),
+            None => BLOCK,
+        }
     }
 }
 
@@ -44,6 +62,8 @@ pub(crate) struct Options {
     workers: usize,
     tells_replies: bool,
     keys: usize,
+    /// The bound on memory, where it is given.
+    memory: Option<u64>,
     /// Whether keys are numbers.
     are_numbers: bool,
     /// The key of the hash function, where it is given.
@@ -64,10 +84,18 @@ impl Options {
             workers: self.workers,
             tells_replies: self.tells_replies,
             progress,
+            budget: self.memory.map(Budget::of),
             keys: self.keys,
         }
     }
 }
+
+/// `--memory BYTES`: the bound on memory.
+const MEMORY: NumberWord = NumberWord {
+    name: "--memory",
+    low: 1 << 20,
+    high: 1 << 40,
+};
 
 /// `--seed N`: the key of the hash function.
 const SEED: NumberWord = NumberWord {
@@ -92,7 +120,11 @@ numbers from 0 to 18446744073709551613, in digits only.
 
 The cache has one text for each hash of a key. 'stale' is the number of texts in
 whose place the same key put another one; now and then they are freed. 'evicted'
-are those in whose place another key of the same hash put one.
+are those in whose place another key of the same hash put one. With --memory they
+are also those that were put longest ago, which go where others would pass the
+bound until a half is left, and those that alone would take more than 3 parts of
+32. Each text is counted as its bytes, its key's and 512 more. 3 parts of 8 are
+for texts, as many for copies when stale texts are freed, and the rest for maps.
 
 Exit status: 0 done; 1 a read or a write failed; 2 a line is not of this form;
 3 bad usage; 4 out of memory; 5 more different keys than there is room for;
@@ -136,6 +168,11 @@ pub(crate) const LINE: CommandLine = CommandLine {
             help: "Make room for at least N different keys; 1 to 178956970",
         },
         Argument {
+            form: Form::Number(MEMORY, "BYTES"),
+            default: None,
+            help: "Keep no more than BYTES of keys, texts and maps, however many keys there are; 1048576 to 1099511627776",
+        },
+        Argument {
             form: Form::Number(SEED, "N"),
             default: None,
             help: "Hash keys by the key N, and not by one from the machine's randomness; 0 to 18446744073709551615",
@@ -154,6 +191,7 @@ pub(crate) fn options_of(alloc: Global, given: &Given) -> Result<Options, WordsF
         workers: WORKERS.find(alloc, given)?.unwrap_or(1) as usize,
         tells_replies: given.is_set("--replies"),
         keys: MANY_KEYS.find(alloc, given)?.unwrap_or(1) as usize,
+        memory: MEMORY.find(alloc, given)?,
         are_numbers: given.is_set("--numbers"),
         seed: SEED.find(alloc, given)?,
         bits: BITS.find(alloc, given)?.unwrap_or(64) as u32,

@@ -21,6 +21,7 @@ fn print_to<W: Write>(writer: &mut W, counts: Counts) -> io::Result<()> {
         puts,
         keys,
         evicted,
+        ..
     } = counts;
     let stale = puts.saturating_sub(keys).saturating_sub(evicted);
     let (percent, tenth) = percentage(hits, gets);

@@ -4,7 +4,9 @@ ghost use Rattle.nb_lines.specs.Keys.{number_at};
 ghost use Rattle.nb_long.specs.Handles.{IsWhole, KeepsRest};
 ghost use Rattle.nb_cache.specs.Pages.{IsDone};
 
-use crate::calls::{Counts, Worker, get, put};
+use crate::budget::Budget;
+use crate::calls::{Counts, Worker, get, put, put_too_large};
+use crate::evicting::{Evicted, evict};
 use crate::options::Plan;
 use crate::pages::Page;
 use crate::parsing::{Trace, parsed};
@@ -28,6 +30,8 @@ const TOLD: u64 = 1 << 15;
 pub(crate) struct Block<'a> {
     trace: Trace<'a>,
     plan: Plan,
+    /// By how many threads it is worth to be replayed.
+    threads: usize,
     /// How many lines were read, with those of the block.
     lines: u64,
     /// How many of them are done, as far as workers have told it.
@@ -38,11 +42,17 @@ impl<'a> Block<'a> {
     /// A block behind so many lines.
     pub(crate) fn new(trace: Trace<'a>, plan: Plan, before: u64) -> Block<'a> {
         Block {
+            threads: trace.threads,
             lines: before.wrapping_add(trace.lines),
             trace,
             plan,
             done: AtomicU64::new(before),
         }
+    }
+
+    /// By how many threads it is worth to be replayed.
+    pub(crate) fn threads(&self) -> usize {
+        self.threads
     }
 
     /// How many lines were read, with those of the block.
@@ -85,34 +95,64 @@ where
     W: Write,
 {
     let mut cache = Handle::open(alloc, run.plan.shape()?)?;
-    let mut stream = Stream::new(alloc, reader)?;
+    let mut stream = Stream::new(alloc, reader, run.plan.block())?;
     for _ in 0..u64::MAX {
         if !stream.refill()? {
             break;
         }
         let trace = parsed(rt, alloc, stream.block(), run.plan, run.lines)?;
+        renew_in_time(rt, alloc, run, &mut cache, trace.count)?;
         cache = run.work(rt, alloc, cache, trace)?;
         run.write_replies(alloc, writer)?;
-        renew_in_time(rt, alloc, run, &mut cache)?;
     }
     Ok(())
 }
 
-/// Makes the cache anew where it is time for that.
+/// Makes the cache anew where it is time for that, before texts are put that are counted for so much.
 fn renew_in_time<R: Wait>(
     rt: &R,
     alloc: Global,
     run: &mut Run,
     cache: &mut Handle<Page>,
+    coming: u64,
 ) -> Result<(), ProgramFault>
     requires whole { IsWhole cache.old }
     ensures whole { IsWhole cache.new }
 {
+    if let Some(budget) = run.plan.budget {
+        return make_room(rt, alloc, run, cache, budget, coming);
+    }
     let Counts { puts, keys, .. } = run.counts();
     if must_renew(puts.wrapping_sub(run.freed), keys) && renewed(rt, alloc, cache)? {
         run.freed = puts.wrapping_sub(keys);
     }
     Ok(())
+}
+
+/// Makes the cache anew where it has no room for texts that are counted for so much: stale texts go,
+/// and of the others those that were put longest ago, until half of the room is left.
+fn make_room<R: Wait>(
+    rt: &R,
+    alloc: Global,
+    run: &mut Run,
+    cache: &mut Handle<Page>,
+    budget: Budget,
+    coming: u64,
+) -> Result<(), ProgramFault>
+    requires whole { IsWhole cache.old }
+    ensures whole { IsWhole cache.new }
+{
+    let Counts { stored, .. } = run.counts();
+    if budget.has_room(stored.wrapping_sub(run.freed_count), coming) {
+        return Ok(());
+    }
+    let Evicted { texts, left } = evict(rt, alloc, cache, budget.left())?;
+    run.evicted = run.evicted.wrapping_add(texts);
+    run.freed_count = stored.wrapping_sub(left);
+    if renewed(rt, alloc, cache)? {
+        return Ok(());
+    }
+    Err(ProgramFault::OutOfMemory)
 }
 
 /// Replays the part of a block that is the worker's with this number, and keeps why it stopped early.
@@ -200,8 +240,10 @@ fn call<R: Wait>(
 {
     let Request { key, line, action } = request;
     let place = key_of(key.number).unwrap();
+    worker.line = before.wrapping_add(line);
     match action {
-        Action::Get => get(worker, handle, place, key, before.wrapping_add(line)),
-        Action::Put(text) => put(rt, alloc, &mut worker.counts, handle, place, key, text),
+        Action::Get => get(worker, handle, place, key),
+        Action::Put(text) => put(rt, alloc, worker, handle, place, key, text),
+        Action::PutTooLarge => put_too_large(rt, &mut worker.counts, handle, place, key.name),
     }
 }

@@ -29,6 +29,10 @@ pub(crate) struct Run {
     pub(crate) lines: u64,
     /// How many texts that were put were freed.
     pub(crate) freed: u64,
+    /// What texts were counted for that were freed.
+    pub(crate) freed_count: u64,
+    /// How many texts went where others came.
+    pub(crate) evicted: u64,
 }
 
 impl Run {
@@ -42,11 +46,13 @@ impl Run {
             plan,
             lines: 0,
             freed: 0,
+            freed_count: 0,
+            evicted: 0,
         })
     }
 
-    /// All workers replay their parts of a block at the same time, each in a thread of its own and
-    /// by a handle of its own, which are joined again.
+    /// All workers replay their parts of a block, each by a handle of its own, which are joined again,
+    /// and in a thread of its own where the block is long.
     pub(crate) fn work<R: Threads + Sync + Wait + Eprint>(
         &mut self,
         rt: &R,
@@ -63,13 +69,14 @@ impl Run {
         };
         let block = Block::new(trace, self.plan, self.lines);
         self.lines = block.lines();
+        let threads = block.threads().min(workers).max(1);
         work_at(
             rt,
             alloc,
             &block,
             self.workers.as_slice(),
             handles.as_mut_slice(),
-            workers,
+            threads,
         );
         self.stop_at_fault()?;
         Ok(joined(handles))
@@ -91,6 +98,8 @@ impl Run {
         for worker in self.workers.iter_mut() {
             counts = counts.with(worker.get_mut().counts);
         }
+        counts.keys = counts.keys.wrapping_sub(self.evicted);
+        counts.evicted = counts.evicted.wrapping_add(self.evicted);
         counts
     }
 
@@ -135,16 +144,16 @@ fn work_at<R: Threads + Sync + Wait + Eprint>(
     block: &Block<'_>,
     workers: &[Mutex<Worker>],
     handles: &mut [Handle<Page>],
-    count: usize,
+    threads: usize,
 )
     requires all { AreAll handles.old }
-    requires some { 0 < count }
+    requires some { 0 < threads }
     ensures all { AreAll handles.new }
 {
     thread::for_each_mut(
         rt,
         handles,
-        count,
+        threads,
         &|number: usize, handle: &mut Handle<Page>|
             ensures { KeepsRest handle.entry.now handle.exit.now }
         { work(rt, alloc, block, workers, handle, number) },

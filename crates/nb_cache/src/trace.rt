@@ -3,6 +3,7 @@ ghost use Rattle.std.specs.Prelude.{◌≡◌, ◌≤◌, IfOk, IsOk};
 ghost use Rattle.nb_core.specs.declared.numbers.TheConstants.{KEY_MAX};
 ghost use Rattle.nb_cache.specs.Keys.{IsKey, IsReadAs};
 
+use crate::budget::{Budget, count_of};
 use crate::options::KeyForm;
 use nb_core::KEY_MAX;
 use nb_lines::{Cause, read_number};
@@ -31,6 +32,33 @@ pub(crate) struct Request<'a> {
 pub(crate) enum Action<'a> {
     Get,
     Put(&'a [u8]),
+    /// A put of a text that is too large to be kept.
+    PutTooLarge,
+}
+
+impl<'a> Request<'a> {
+    /// What the text is counted for that it puts.
+    pub(crate) fn count(&self) -> u64 {
+        match self.action {
+            Action::Put(text) => count_of(self.key.name, text),
+            Action::Get | Action::PutTooLarge => 0,
+        }
+    }
+
+    /// The same request, but that its text isn't kept if it is too large.
+    pub(crate) fn within(self, budget: Option<Budget>) -> Request<'a> {
+        let Some(budget) = budget else {
+            return self;
+        };
+        if budget.keeps(self.count()) {
+            return self;
+        }
+        Request {
+            key: self.key,
+            line: self.line,
+            action: Action::PutTooLarge,
+        }
+    }
 }
 
 /// The words before and behind the first blank. Where there is no blank, nothing is behind it.
