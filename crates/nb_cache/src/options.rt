@@ -94,7 +94,7 @@ impl Options {
 const MEMORY: NumberWord = NumberWord {
     name: "--memory",
     low: 1 << 20,
-    high: 1 << 40,
+    high: 1 << 37,
 };
 
 /// `--seed N`: the key of the hash function.
@@ -170,7 +170,7 @@ pub(crate) const LINE: CommandLine = CommandLine {
         Argument {
             form: Form::Number(MEMORY, "BYTES"),
             default: None,
-            help: "Keep no more than BYTES of keys, texts and maps, however many keys there are; 1048576 to 1099511627776",
+            help: "Keep no more than BYTES of keys, texts and maps, however many keys there are; 1048576 to 137438953472",
         },
         Argument {
             form: Form::Number(SEED, "N"),

@@ -46,7 +46,10 @@ impl<'a> Request<'a> {
     }
 
     /// The same request, but that its text isn't kept if it is too large.
-    pub(crate) fn within(self, budget: Option<Budget>) -> Request<'a> {
+    pub(crate) fn within(self, budget: Option<Budget>) -> Request<'a>
+        ensures key { result.key ≡ self.entry.key }
+        ensures line { result.line ≡ self.entry.line }
+    {
         let Some(budget) = budget else {
             return self;
         };
