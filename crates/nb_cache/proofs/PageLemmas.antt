@@ -18,7 +18,7 @@ use Rattle.nb_cache.specs.declared.replies.Replies.{Replies}
 
 -- ---- a page
 
-stored :
+pub stored :
     (store : Shelves) (shown : Option (Where Page)) (token : Where Page) (number : ℕ)
     → IfSome shown (λ shown. Shows store shown × (shown.index ≡ number)) → shown ≡ Some token
     → Shows store token × (token.index ≡ number)

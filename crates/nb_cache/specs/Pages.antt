@@ -1,5 +1,5 @@
 -- Pages: texts under their keys, and what is found of them.
-use Rattle.std.specs.Prelude.{◌≡◌, ℕ, List, MatchOption, None, Ok, Option, Some, if◌then◌else◌}
+use Rattle.std.specs.Prelude.{◌≡◌, ◌<◌, ◌≤◌, ℕ, List, MatchOption, None, Ok, Option, Some, if◌then◌else◌}
 use Rattle.boxcar.specs.Table.{Shelves, Shows, Where}
 use Rattle.core.specs.Str.{bytes_eq}
 use Rattle.nb_core.specs.Log.{reply_at}
@@ -54,6 +54,15 @@ pub record HasDropped (place : ℕ) (name : List ℕ) (before after : HandleOf) 
   pub gone :
       MatchOption found (after ≡ between) (λ _. (number : Option ℕ)
       × HasWritten between.map.map (remove_of place) between.seat after.seat Unlimited (Found number))
+
+-- What a text comes to that was put by this line, where those before another line go: it is taken out
+-- by one call, or stays, and is counted for so much.
+abbrev pub GoesIfOld :
+    (first line place : ℕ) → (before after : HandleOf) → (left : Option ℕ) → Type 0
+GoesIfOld first line place before after None =
+    (line < first) × ((number : Option ℕ)
+    × HasWritten before.map.map (remove_of place) before.seat after.seat Unlimited (Found number))
+GoesIfOld first line place before after (Some count) = (first ≤ line) × (after ≡ before)
 
 -- What a line asks for is done at the place.
 abbrev pub IsDone : Action → (place : ℕ) → (name : List ℕ) → (before after : HandleOf) → Type 0

@@ -1,6 +1,9 @@
 //! Texts are evicted: those that were put longest ago go.
-ghost use Rattle.std.specs.Prelude.{◌-◌, ◌<◌, ◌^◌};
-ghost use Rattle.nb_long.specs.Handles.{IsWhole};
+ghost use Rattle.std.specs.Prelude.{◌≡◌, ◌-◌, ◌<◌, ◌^◌, IfOk};
+ghost use Rattle.boxcar.specs.Table.{Shows, Where};
+ghost use Rattle.nb_long.specs.Handles.{IsWhole, KeepsRest};
+ghost use Rattle.nb_cache.specs.Pages.{GoesIfOld};
+ghost use Rattle.nb_cache.specs.declared.pages.Page.{Page};
 
 use crate::budget::{Age, first_kept};
 use crate::pages::Page;
@@ -62,7 +65,10 @@ fn ages_of(
 }
 
 /// How old the text is whose page is stored under this number.
-fn age_of(cache: &Handle<Page>, number: Num) -> Result<Age, ProgramFault> {
+fn age_of(cache: &Handle<Page>, number: Num) -> Result<Age, ProgramFault>
+    ensures { IfOk result (λ age. (token : Where Page) × Shows cache.now.map.store token
+        × (token.index ≡ number) × (age.line ≡ token.value.line)) }
+{
     let page = cache.show(number).ok_or(ProgramFault::Unshown)?;
     Ok(page.value().age())
 }
@@ -79,13 +85,31 @@ fn take_out<R: Wait>(
 {
     let mut evicted = Evicted { texts: 0, left: 0 };
     for (place, number) in entries {
-        let age = age_of(cache, *number)?;
-        if age.line < line {
-            let _number = cache.remove(rt, *place);
-            evicted.texts = evicted.texts.wrapping_add(1);
-        } else {
-            evicted.left = evicted.left.saturating_add(age.count);
+        match take_out_old(rt, cache, *place, *number, line)? {
+            None => evicted.texts = evicted.texts.wrapping_add(1),
+            Some(count) => evicted.left = evicted.left.saturating_add(count),
         }
     }
     Ok(evicted)
+}
+
+/// Takes the text out whose page is stored under this number, and is at this place, if it was put
+/// before a line; else answers what it is counted for.
+fn take_out_old<R: Wait>(
+    rt: &R,
+    cache: &mut Handle<Page>,
+    place: Key,
+    number: Num,
+    line: u64,
+) -> Result<Option<u64>, ProgramFault>
+    ensures rest { KeepsRest cache.old cache.new }
+    ensures old { IfOk result (λ left. (token : Where Page) × Shows cache.old.map.store token
+        × (token.index ≡ number) × GoesIfOld line token.value.line place cache.old cache.new left) }
+{
+    let age = age_of(cache, number)?;
+    if age.line >= line {
+        return Ok(Some(age.count));
+    }
+    let _number = cache.remove(rt, place);
+    Ok(None)
 }
