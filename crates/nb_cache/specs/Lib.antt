@@ -1,2 +1,6 @@
 -- The definitions that the contracts cite.
+pub mod Ages
 pub mod Crews
+pub mod Keys
+pub mod Pages
+pub mod Replies

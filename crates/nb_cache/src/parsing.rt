@@ -1,5 +1,6 @@
 //! Parsing: each line of a block is read once, by one of the workers.
 
+use crate::options::Plan;
 use crate::trace::{Request, read_request};
 use nb_core::{MAX_SEATS, OutOfMemory};
 use nb_lines::{Cause, Lines, ProgramFault};
@@ -7,14 +8,21 @@ use std::alloc::Global;
 use std::thread;
 use std::thread::Threads;
 
+/// How many bytes of a trace are worth a thread.
+const WORTH: usize = 1 << 14;
+
 /// A part of a block, and what its lines ask for.
 #[derive(Drop)]
 pub(crate) struct Part<'a> {
     text: &'a [u8],
     /// For each worker the requests at its keys, in the order of their lines.
     pub(crate) requests: Vec<Vec<Request<'a>>>,
+    /// How many lines come before it.
+    pub(crate) first: u64,
     /// How many lines were read.
     lines: u64,
+    /// What the texts are counted for that they put.
+    count: u64,
     /// What is wrong with the next line, or that memory ran out at it.
     stopped: Option<Stop>,
 }
@@ -48,21 +56,25 @@ impl<'a> Part<'a> {
         Ok(Part {
             text,
             requests,
+            first: 0,
             lines: 0,
+            count: 0,
             stopped: None,
         })
     }
 
     /// Reads its lines, up to the first one that is broken.
-    fn parse(&mut self) {
-        if let Err(stop) = self.parse_lines() {
+    fn parse(&mut self, plan: Plan) {
+        if let Err(stop) = self.parse_lines(plan) {
             self.stopped = Some(stop);
         }
     }
 
-    fn parse_lines(&mut self) -> Result<(), Stop> {
+    fn parse_lines(&mut self, plan: Plan) -> Result<(), Stop> {
         for line in Lines::new(self.text) {
-            self.keep(read_request(line)?)?;
+            let request = read_request(plan.form, line, self.lines)?.within(plan.budget);
+            self.count = self.count.saturating_add(request.count());
+            self.keep(request)?;
             self.lines = self.lines.wrapping_add(1);
         }
         Ok(())
@@ -72,7 +84,7 @@ impl<'a> Part<'a> {
     /// key's is divided by the number of workers.
     fn keep(&mut self, request: Request<'a>) -> Result<(), OutOfMemory> {
         let workers = self.requests.len().max(1) as u64;
-        let owner = (request.number % workers) as usize;
+        let owner = (request.key.number % workers) as usize;
         if let Some(requests) = self.requests.get_mut(owner) {
             requests.push(request)?;
         }
@@ -85,8 +97,12 @@ impl<'a> Part<'a> {
 pub(crate) struct Trace<'a> {
     /// Its parts, in their order.
     pub(crate) parts: Vec<Part<'a>>,
+    /// By how many threads it is worth to be replayed.
+    pub(crate) threads: usize,
     /// How many lines it has.
     pub(crate) lines: u64,
+    /// What the texts are counted for that they put.
+    pub(crate) count: u64,
 }
 
 /// Cuts a text behind the first line that ends at this length or later.
@@ -114,33 +130,42 @@ fn parts_of(alloc: Global, text: &[u8], workers: usize) -> Result<Vec<Part<'_>>,
     Ok(parts)
 }
 
-/// Reads all lines of a block behind so many other lines of a trace, by so many workers at the same
-/// time. The first broken line is told.
+/// Reads all lines of a block behind so many other lines of a trace, by several threads if it is long.
+/// The first broken line is told.
 pub(crate) fn parsed<'a, R: Threads + Sync>(
     rt: &R,
     alloc: Global,
     text: &'a [u8],
-    workers: usize,
+    plan: Plan,
     before: u64,
 ) -> Result<Trace<'a>, ProgramFault> {
-    let mut parts = parts_of(alloc, text, workers)?;
+    let threads = (text.len() / WORTH).min(MAX_SEATS).max(1);
+    let mut parts = parts_of(alloc, text, plan.workers)?;
     thread::for_each_mut(
         rt,
         parts.as_mut_slice(),
-        MAX_SEATS,
-        &|_number: usize, part: &mut Part<'_>| { part.parse() },
+        threads,
+        &|_number: usize, part: &mut Part<'_>| { part.parse(plan) },
     );
-    let mut lines = 0u64;
-    for part in parts.iter() {
-        lines = lines.wrapping_add(part.lines);
+    let mut end = before;
+    let mut count = 0u64;
+    for part in parts.iter_mut() {
+        part.first = end;
+        end = end.wrapping_add(part.lines);
+        count = count.saturating_add(part.count);
         match part.stopped {
             None => {}
             Some(Stop::Line(cause)) => {
-                let line = before.wrapping_add(lines).wrapping_add(1);
-                return Err(ProgramFault::Line(line, cause));
+                return Err(ProgramFault::Line(end.wrapping_add(1), cause));
             }
             Some(Stop::OutOfMemory) => return Err(ProgramFault::OutOfMemory),
         }
     }
-    Ok(Trace { parts, lines })
+    let lines = end.wrapping_sub(before);
+    Ok(Trace {
+        parts,
+        threads,
+        lines,
+        count,
+    })
 }

@@ -1,39 +1,35 @@
-//! Printing: what the gets found, and what was counted.
+//! Printing: what was counted.
 
-use crate::replaying::{Counts, Replayed};
+use crate::calls::Counts;
 use nb_lines::ProgramFault;
-use std::alloc::Global;
 use std::io;
-use std::io::{BufWriter, Write};
+use std::io::Write;
 
-/// Prints what came of a replay.
-pub(crate) fn print<W: Write + Drop>(
-    alloc: Global,
-    writer: W,
-    replayed: &Replayed,
-) -> Result<(), ProgramFault> {
-    let Ok(mut writer) = BufWriter::new(alloc, writer) else {
-        return Err(ProgramFault::OutOfMemory);
-    };
-    match print_to(&mut writer, replayed) {
+/// Prints what was counted in a replay.
+pub(crate) fn print<W: Write>(writer: &mut W, counts: Counts) -> Result<(), ProgramFault> {
+    match print_to(writer, counts) {
         Ok(()) => Ok(()),
         Err(_) => Err(ProgramFault::Write),
     }
 }
 
 /// The same, to a writer that may hold back what it is given.
-fn print_to<W: Write>(writer: &mut W, replayed: &Replayed) -> io::Result<()> {
+fn print_to<W: Write>(writer: &mut W, counts: Counts) -> io::Result<()> {
     let Counts {
         gets,
         hits,
         puts,
         keys,
-    } = replayed.counts;
-    let stale = puts.saturating_sub(keys);
+        evicted,
+        ..
+    } = counts;
+    let stale = puts.saturating_sub(keys).saturating_sub(evicted);
     let (percent, tenth) = percentage(hits, gets);
-    writer.write_all(replayed.replies.as_slice())?;
     writeln!(writer, "gets {gets}\nhits {hits}\nratio {percent}.{tenth}%")?;
-    writeln!(writer, "puts {puts}\nkeys {keys}\nstale {stale}")?;
+    writeln!(
+        writer,
+        "puts {puts}\nkeys {keys}\nstale {stale}\nevicted {evicted}"
+    )?;
     writer.flush()
 }
 

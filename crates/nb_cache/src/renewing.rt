@@ -3,7 +3,7 @@ ghost use Rattle.std.specs.Prelude.{◌*◌, ◌+◌, ◌<◌, ◌≤◌, ◌^�
 ghost use Rattle.nb_cache.specs.declared.renewing.TheConstants.{FEW};
 ghost use Rattle.nb_long.specs.Handles.{IsWhole};
 
-use crate::replaying::Page;
+use crate::pages::Page;
 use nb_lines::ProgramFault;
 use nb_long::{Handle, RenewStoreFault};
 use std::alloc::Global;
@@ -34,7 +34,7 @@ pub(crate) fn renewed<R: Wait>(
     match cache.renew_store(rt, alloc, shape) {
         Ok(_) => Ok(true),
         Err(RenewStoreFault::OutOfMemory) => Ok(false),
-        Err(RenewStoreFault::Full) => Err(ProgramFault::Full),
+        Err(RenewStoreFault::Full) => Err(ProgramFault::FullOfKeys),
         Err(RenewStoreFault::Unshown) => Err(ProgramFault::Unshown),
         Err(RenewStoreFault::NotAll) => unreachable!(),
     }

@@ -3,15 +3,20 @@ ghost use Rattle.std.specs.Prelude.{◌≡◌, ◌<◌, IfOk};
 ghost use Rattle.nb_cache.specs.Crews.{AreAll};
 ghost use Rattle.nb_long.specs.Handles.{IsWhole, KeepsRest};
 
+use crate::calls::{Counts, Worker};
+use crate::options::Plan;
+use crate::pages::Page;
 use crate::parsing::Trace;
-use crate::replaying::{Block, Counts, Page, Replayed, Worker, replay_block};
+use crate::replaying::{Block, replay_block};
+use crate::replies::Reply;
 use nb_core::OutOfMemory;
-use nb_lines::{ProgramFault, ProgressMeter};
+use nb_lines::ProgramFault;
 use nb_long::Handle;
 use std::alloc::Global;
+use std::io::Write;
 use std::sync::{Mutex, Wait};
-use std::thread;
 use std::thread::Threads;
+use std::{io, thread};
 
 /// The state of a run.
 #[derive(Drop)]
@@ -19,36 +24,35 @@ pub(crate) struct Run {
     /// What came of each worker's calls. Its worker alone takes the lock, and the program where no
     /// worker is at work.
     workers: Vec<Mutex<Worker>>,
-    tells_replies: bool,
-    progress: ProgressMeter,
+    pub(crate) plan: Plan,
     /// How many lines were read.
     pub(crate) lines: u64,
     /// How many texts that were put were freed.
     pub(crate) freed: u64,
+    /// What texts were counted for that were freed.
+    pub(crate) freed_count: u64,
+    /// How many texts went where others came.
+    pub(crate) evicted: u64,
 }
 
 impl Run {
-    pub(crate) fn new(
-        alloc: Global,
-        workers: usize,
-        tells_replies: bool,
-        progress: ProgressMeter,
-    ) -> Result<Run, OutOfMemory> {
-        let mut all = Vec::with_capacity(alloc, workers)?;
-        for _worker in 0..workers {
-            all.push(Mutex::new(Worker::new(alloc)))?;
+    pub(crate) fn new(alloc: Global, plan: Plan) -> Result<Run, OutOfMemory> {
+        let mut workers = Vec::with_capacity(alloc, plan.workers)?;
+        for number in 0..plan.workers {
+            workers.push(Mutex::new(Worker::new(alloc, number, plan.tells_replies)))?;
         }
         Ok(Run {
-            workers: all,
-            tells_replies,
-            progress,
+            workers,
+            plan,
             lines: 0,
             freed: 0,
+            freed_count: 0,
+            evicted: 0,
         })
     }
 
-    /// All workers replay their parts of a block at the same time, each in a thread of its own and
-    /// by a handle of its own, which are joined again.
+    /// All workers replay their parts of a block, each by a handle of its own, which are joined again,
+    /// and in a thread of its own where the block is long.
     pub(crate) fn work<R: Threads + Sync + Wait + Eprint>(
         &mut self,
         rt: &R,
@@ -63,15 +67,16 @@ impl Run {
         let Ok(mut handles) = cache.split_all(alloc) else {
             return Err(ProgramFault::OutOfMemory);
         };
-        let block = Block::new(trace, self.tells_replies, self.lines, self.progress);
+        let block = Block::new(trace, self.plan, self.lines);
         self.lines = block.lines();
+        let threads = block.threads().min(workers).max(1);
         work_at(
             rt,
             alloc,
             &block,
             self.workers.as_slice(),
             handles.as_mut_slice(),
-            workers,
+            threads,
         );
         self.stop_at_fault()?;
         Ok(joined(handles))
@@ -91,22 +96,44 @@ impl Run {
     pub(crate) fn counts(&mut self) -> Counts {
         let mut counts = Counts::NOTHING;
         for worker in self.workers.iter_mut() {
-            counts = counts.with(worker.get_mut().replayed.counts);
+            counts = counts.with(worker.get_mut().counts);
         }
+        counts.keys = counts.keys.wrapping_sub(self.evicted);
+        counts.evicted = counts.evicted.wrapping_add(self.evicted);
         counts
     }
 
-    /// What came of the run, worker by worker.
-    pub(crate) fn gathered(self, alloc: Global) -> Result<Replayed, OutOfMemory> {
-        let mut run = self;
-        let mut replies = Vec::new(alloc);
-        for worker in run.workers.iter_mut() {
-            replies.extend_from_slice(worker.get_mut().replayed.replies.as_slice())?;
+    /// Writes what the gets of a block found, in the order of their lines, and forgets it.
+    pub(crate) fn write_replies<W: Write>(
+        &mut self,
+        alloc: Global,
+        writer: &mut W,
+    ) -> Result<(), ProgramFault> {
+        let mut all = Vec::new(alloc);
+        for worker in self.workers.iter_mut() {
+            all.extend_from_slice(worker.get_mut().replies.places.as_slice())?;
         }
-        Ok(Replayed {
-            counts: run.counts(),
-            replies,
-        })
+        if all.is_empty() {
+            return Ok(());
+        }
+        all.sort_unstable();
+        if self.write_all(all.as_slice(), writer).is_err() {
+            return Err(ProgramFault::Write);
+        }
+        for worker in self.workers.iter_mut() {
+            worker.get_mut().replies.clear();
+        }
+        Ok(())
+    }
+
+    /// Writes these replies, in their order, at once.
+    fn write_all<W: Write>(&mut self, replies: &[Reply], writer: &mut W) -> io::Result<()> {
+        for reply in replies {
+            if let Some(worker) = self.workers.get_mut(reply.worker) {
+                writer.write_all(worker.get_mut().replies.line_of(*reply))?;
+            }
+        }
+        writer.flush()
     }
 }
 
@@ -117,16 +144,16 @@ fn work_at<R: Threads + Sync + Wait + Eprint>(
     block: &Block<'_>,
     workers: &[Mutex<Worker>],
     handles: &mut [Handle<Page>],
-    count: usize,
+    threads: usize,
 )
     requires all { AreAll handles.old }
-    requires some { 0 < count }
+    requires some { 0 < threads }
     ensures all { AreAll handles.new }
 {
     thread::for_each_mut(
         rt,
         handles,
-        count,
+        threads,
         &|number: usize, handle: &mut Handle<Page>|
             ensures { KeepsRest handle.entry.now handle.exit.now }
         { work(rt, alloc, block, workers, handle, number) },

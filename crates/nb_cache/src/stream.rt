@@ -5,9 +5,6 @@ use std::alloc::Global;
 use std::io;
 use std::io::{BufRead, BufReader, ErrorKind, Read};
 
-/// How many bytes of a block are read before its last line's end is looked for.
-const BLOCK: usize = 1 << 22;
-
 /// How many bytes are asked for at once.
 const AHEAD: usize = 1 << 16;
 
@@ -16,13 +13,16 @@ const AHEAD: usize = 1 << 16;
 pub(crate) struct Stream<I> {
     reader: BufReader<I>,
     block: Vec<u8>,
+    /// How many bytes of a block are read before its last line's end is looked for.
+    size: usize,
 }
 
 impl<I: Read + Drop> Stream<I> {
-    pub(crate) fn new(alloc: Global, reader: I) -> Result<Stream<I>, ProgramFault> {
+    pub(crate) fn new(alloc: Global, reader: I, size: usize) -> Result<Stream<I>, ProgramFault> {
         Ok(Stream {
             reader: BufReader::with_capacity(alloc, AHEAD, reader).map_err(fault_of)?,
             block: Vec::new(alloc),
+            size,
         })
     }
 
@@ -40,9 +40,9 @@ impl<I: Read + Drop> Stream<I> {
 
     /// Reads so many bytes, and the rest of the line that they end in.
     fn read_block(&mut self) -> io::Result<usize> {
-        let mut reader = self.reader.by_ref().take(BLOCK as u64);
+        let mut reader = self.reader.by_ref().take(self.size as u64);
         let count = reader.read_to_end(&mut self.block)?;
-        if count < BLOCK {
+        if count < self.size {
             return Ok(count);
         }
         self.reader.read_until(b'\n', &mut self.block)

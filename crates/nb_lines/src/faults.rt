@@ -146,6 +146,8 @@ pub enum ProgramFault {
     Full,
     #[error("more different lines than there is room for")]
     FullOfLines,
+    #[error("more different keys than there is room for")]
+    FullOfKeys,
     #[error("more keys online than there is room for")]
     Crowded,
     #[error("a number comes too often")]
@@ -171,6 +173,7 @@ impl ProgramFault {
             ProgramFault::OutOfMemory => 4,
             ProgramFault::Full
             | ProgramFault::FullOfLines
+            | ProgramFault::FullOfKeys
             | ProgramFault::Crowded
             | ProgramFault::TooOften => 5,
             ProgramFault::Unshown => 6,

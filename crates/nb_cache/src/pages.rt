@@ -1,0 +1,56 @@
+//! Pages: what a put stores.
+ghost use Rattle.std.specs.Prelude.{◌≡◌, IfOk, MatchOption, None, Some};
+ghost use Rattle.nb_cache.specs.Pages.{text_for};
+
+use crate::budget::{Age, count_of};
+use nb_core::OutOfMemory;
+use std::alloc::Global;
+
+/// A text under its key.
+#[derive(Clone, Drop)]
+pub(crate) struct Page {
+    name: Vec<u8>,
+    text: Vec<u8>,
+    /// The number of the line that put it.
+    line: u64,
+}
+
+impl Page {
+    pub(crate) fn new(
+        alloc: Global,
+        name: &[u8],
+        text: &[u8],
+        line: u64,
+    ) -> Result<Page, OutOfMemory>
+        ensures { IfOk result (λ page. (page.name.items ≡ name.now)
+            × (page.text.items ≡ text.now)) }
+    {
+        Ok(Page {
+            name: Vec::from_slice(alloc, name)?,
+            text: Vec::from_slice(alloc, text)?,
+            line,
+        })
+    }
+
+    /// By which line it was put, and what it is counted for.
+    pub(crate) fn age(&self) -> Age
+        ensures { result.line ≡ self.now.line }
+    {
+        Age {
+            line: self.line,
+            count: count_of(self.name.as_slice(), self.text.as_slice()),
+        }
+    }
+
+    /// Its text, where it is this key's page.
+    pub(crate) fn text_for(&self, name: &[u8]) -> Option<&[u8]>
+        ensures { MatchOption result (text_for self.now name.now ≡ None)
+            (λ text. text_for self.now name.now ≡ Some text.now) }
+    {
+        if self.name.as_slice() == name {
+            Some(self.text.as_slice())
+        } else {
+            None
+        }
+    }
+}
