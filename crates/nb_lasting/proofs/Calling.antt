@@ -2,7 +2,7 @@
 use Rattle.std.proofs.Common.{◌≡◌, ◌∙◌, ◌++◌, ℕ, List, [], ◌∷◌, Some, ap, subst, sym}
 use Rattle.std.specs.FinMap as numbers
 use Rattle.std.specs.Prelude.{Err, None, Ok, Option, Result, unwrap_or}
-use Rattle.std.proofs.lemmas.List.{append_assoc}
+use Rattle.std.proofs.lemmas.List.{append-nil, append_assoc}
 use Rattle.atomic_table.specs.Table.{Me, rest}
 use Rattle.nb_core.proofs.Theorems.{crowded_absent, log_is_replayed}
 use Rattle.nb_core.specs.Calls.{overflows}
@@ -142,18 +142,13 @@ module _
 
     pub has-called : HasCalledIn lane before.0 after.0 made
     has-called =
-        let current = taken.mine idle.guest in
-        record {
-          reads = current.made;
-          are_reads = current.reads;
-          gone = subst (λ (l : List Event). HasGoneOnBy lane (log_of before.0.seen) (log_of l)
-              (made ++ current.made)) (sym seen-is)
-              (goes_on lane (log_of before.0.seen) (log_of taken.knew)
-              (log_of (known_of mid.0.filled mid.0.past handle.seat)) current.made made current.gone
-              (subst (λ n. HasGoneOnBy n (log_of taken.knew)
-              (log_of (known_of mid.0.filled mid.0.past handle.seat)) made) taken.one.number
-              goes.1));
-        }
+        subst (λ (l : List Event). HasGoneOnBy lane (log_of before.0.seen) (log_of l) made) (sym seen-is)
+        (subst (HasGoneOnBy lane (log_of before.0.seen)
+        (log_of (known_of mid.0.filled mid.0.past handle.seat))) (append-nil made)
+        (goes_on lane (log_of before.0.seen) (log_of taken.knew)
+        (log_of (known_of mid.0.filled mid.0.past handle.seat)) [] made (taken.mine idle.guest)
+        (subst (λ n. HasGoneOnBy n (log_of taken.knew)
+        (log_of (known_of mid.0.filled mid.0.past handle.seat)) made) taken.one.number goes.1)))
 
 -- ---- the slot that was taken last
 

@@ -12,7 +12,6 @@ use Rattle.nb_map.specs.Maps.{MapOf}
 use Rattle.nb_lasting.proofs.Dealt.{snoc_cases, there_is}
 use Rattle.nb_lasting.proofs.Epochs.{goes_on, one_log_for_all}
 use Rattle.nb_lasting.proofs.Renewed.{all-from, at-all, handle-at, length-each, logs-of, seat-at, whole-made}
-use Rattle.nb_lasting.proofs.Visiting.{lacks-reads}
 use Rattle.nb_lasting.specs.Closing.{HasGathered, HaveComeTo, HaveGathered}
 use Rattle.nb_lasting.specs.Epochs.{HasGoneOnBy, HaveMetIn, IsOfEpoch, Knows}
 use Rattle.nb_lasting.specs.Gathered.{seats_of_each}
@@ -51,14 +50,8 @@ more-gathered n guests guest seen me new handles more have many number is has =
         by (inr (last, same)) =
             subst (λ k. Goal k g) (sym (last ∙ many)) (subst (Goal n) same (
               number,
-              record {
-                own = has.here.made;
-                are = lacks-reads [] has.here.made has.here.reads;
-                gone = subst (λ k. HasGoneOnBy k guest.log (log_of (has.holds.knew n)) has.here.made)
-                    (sym number)
-                    (subst (λ l. HasGoneOnBy n l (log_of (has.holds.knew n)) has.here.made) is
-                    has.here.gone);
-              },
+              subst (λ k. HasGoneOnBy k guest.log (log_of (has.holds.knew n)) []) (sym number)
+                  (subst (λ l. HasGoneOnBy n l (log_of (has.holds.knew n)) []) is has.here),
             ))
 
 -- at the beginning
@@ -133,13 +126,8 @@ module _
           let was = have.current i guest at in
           let number : one.0.seat.chain.number ≡ guest.number =
           (held.each i one.0 one.1).0.number ∙ sym was.0 in
-          record {
-            own = was.1.own;
-            are = was.1.are;
-            gone = goes_on guest.number guest.log (log_of (have.holds.knew i)) step.0 was.1.own []
-                was.1.gone
-                (subst (λ k. HasGoneOnBy k (log_of (have.holds.knew i)) step.0 []) number met);
-          }
+          goes_on guest.number guest.log (log_of (have.holds.knew i)) step.0 [] [] was.1
+          (subst (λ k. HasGoneOnBy k (log_of (have.holds.knew i)) step.0 []) number met)
 
 -- the handle has all seats of its map
 pub whole-seats :

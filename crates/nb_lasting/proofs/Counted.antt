@@ -1,5 +1,5 @@
 -- A guest counts the map with all handles, and gives them back.
-use Rattle.std.proofs.Common.{◌≡◌, ◌∙◌, ◌++◌, ◌*◌, ◌<◌, ◌≤◌, ◌^◌, ℕ, List, [], Some, ap, length, refl, subst, sym, arith}
+use Rattle.std.proofs.Common.{◌≡◌, ◌∙◌, ◌*◌, ◌<◌, ◌≤◌, ◌^◌, ℕ, List, [], Some, ap, length, refl, subst, sym, arith}
 use Rattle.std.specs.FinMap as numbers
 use Rattle.std.specs.Prelude.{IfOk, Ok, Option, Result}
 use Rattle.atomic_table.specs.Table.{Me}
@@ -16,11 +16,11 @@ use Rattle.nb_map.specs.declared.faults.SettleFault.{SettleFault}
 use Rattle.nb_lasting.proofs.Dealt.{single-map, still-single, there_is}
 use Rattle.nb_lasting.proofs.Epochs.{goes_on}
 use Rattle.nb_lasting.proofs.Renewed.{AreCountedIn, counted-still, has-room-left}
-use Rattle.nb_lasting.proofs.Sharing.{current_gone, current_here}
+use Rattle.nb_lasting.proofs.Sharing.{current_here}
 use Rattle.nb_lasting.specs.Epochs.{HasGoneOnBy}
 use Rattle.nb_lasting.specs.Gathered.{HaveTooMany, IsPartedCounted}
 use Rattle.nb_lasting.specs.Holding.{HasCalledIn, IsIdleGuest}
-use Rattle.nb_lasting.specs.Renewal.{AreHeld, AreStill, CanComeHome, HasRoomAnew, HoldsStill, IsFullAt, blanks, down}
+use Rattle.nb_lasting.specs.Renewal.{AreHeld, AreStill, CanComeHome, HasRoomAnew, KnowOneLog, HoldsStill, IsFullAt, blanks, down}
 use Rattle.nb_lasting.specs.declared.shared.LaneView.{LaneView}
 use Rattle.nb_lasting.specs.inside.Present.{HasSlots}
 
@@ -28,12 +28,8 @@ use Rattle.nb_lasting.specs.inside.Present.{HasSlots}
 pub called-from :
     (lane : ℕ) (before me then : LaneView) (made : List (Call × Reply)) → me.seen ≡ before.seen
     → HasCalledIn lane me then made → HasCalledIn lane before then made
-called-from lane before me then made same called = record {
-  reads = called.reads;
-  are_reads = called.are_reads;
-  gone = subst (λ (l : List Event). HasGoneOnBy lane (log_of l) (log_of then.seen)
-      (made ++ called.reads)) same called.gone;
-}
+called-from lane before me then made same called =
+    subst (λ (l : List Event). HasGoneOnBy lane (log_of l) (log_of then.seen) made) same called
 
 if-ok : {A B : Type 0} (result : Result A B) (x : A) (P : A → Type 0) → result ≡ Ok x → IfOk result P
     → P x
@@ -97,7 +93,7 @@ module _
         outs = holds.outs;
         slots = holds.slots;
         held = still.held;
-        current = λ i less other. current_gone i (holds.knew i) (still.know i) (still.gone i less);
+        current = λ i less other. still.gone i less;
         guest = guest;
         due = λ _. refl;
         seen = λ more. absurd (omega (arith, more, below));
@@ -109,14 +105,9 @@ module _
       → me.0.guest ≡ Some own → own < n → (then : LaneView)
       → log_of then.seen ≡ log_of (still.know own) → HasCalledIn own me.0 then []
   none-called-in still own guest below then is =
-      let mine = holds.mine own below guest in
-      record {
-        reads = mine.made;
-        are_reads = mine.reads;
-        gone = subst (λ l. HasGoneOnBy own (log_of me.0.seen) l mine.made) (sym is)
-            (goes_on own (log_of me.0.seen) (log_of (holds.knew own)) (log_of (still.know own))
-            mine.made [] mine.gone (still.gone own below));
-      }
+      subst (λ l. HasGoneOnBy own (log_of me.0.seen) l []) (sym is)
+      (goes_on own (log_of me.0.seen) (log_of (holds.knew own)) (log_of (still.know own)) [] []
+      (holds.mine own below guest) (still.gone own below))
 
   -- nor since it gathered them
   pub called-home :
@@ -176,18 +167,22 @@ module _
       let known = still-by result is in
       let first = there_is before own (omega (arith, below, holds.still.held.count)) in
       let counts = if-ok result size (AreCountedIn me.0.map known.0.know before after) counted known.1 in
-      let mine = holds.mine own below guest in
       record {
         whole = known.0.know own;
-        current = record {
-          made = mine.made;
-          reads = mine.reads;
-          gone = goes_on own (log_of me.0.seen) (log_of (holds.knew own)) (log_of (known.0.know own))
-              mine.made [] mine.gone (known.0.gone own below);
-        };
+        current = goes_on own (log_of me.0.seen) (log_of (holds.knew own))
+            (log_of (known.0.know own)) [] [] (holds.mine own below guest) (known.0.gone own below);
         room = subst (λ k. HasSlots k then.map.chain.shape)
             (twice ∙ ap (λ k. 2 * k) (counts.at own first.0 first.1).keys) room;
       }
+
+  -- all have one log
+  pub one-log :
+      (result : Result ℕ SettleFault) → IsPartedCounted before after result → (size : ℕ)
+      → result ≡ Ok size → KnowOneLog after
+  one-log result is size counted =
+      let known = still-by result is in
+      let counts = if-ok result size (AreCountedIn me.0.map known.0.know before after) counted known.1 in
+      record { whole = counts.whole; logs = counts.logs }
 
   -- else a new map has room
   pub room-left :
@@ -220,13 +215,8 @@ pub nothing-seen :
     (lane : ℕ) (before after : LaneView) → after.seen ≡ before.seen → IsReplayed (log_of before.seen)
     → HasCalledIn lane before after []
 nothing-seen lane before after same replayed =
-    let current = current_here lane before.seen replayed in
-    record {
-      reads = current.made;
-      are_reads = current.reads;
-      gone = subst (λ (l : List Event). HasGoneOnBy lane (log_of before.seen) (log_of l) current.made)
-          (sym same) current.gone;
-    }
+    subst (λ (l : List Event). HasGoneOnBy lane (log_of before.seen) (log_of l) []) (sym same)
+    (current_here lane before.seen replayed)
 
 -- a token that has done nothing
 pub nothing-called :
@@ -234,8 +224,4 @@ pub nothing-called :
     → IsReplayed (log_of before.0.seen) → HasCalledIn lane before.0 after.0 []
 nothing-called lane before after same replayed =
     subst (λ (me : Me (Option HandleOf) LaneView). HasCalledIn lane before.0 me.0 []) (sym same)
-    (let current = current_here lane before.0.seen replayed in record {
-      reads = current.made;
-      are_reads = current.reads;
-      gone = current.gone;
-    })
+    (current_here lane before.0.seen replayed)

@@ -1,6 +1,6 @@
 -- What a renewer's token holds, from step to step.
-use Rattle.std.proofs.Common.{◌≡◌, ◌≢◌, ◌∙◌, ◌+◌, ◌++◌, ◌<◌, ◌≤◌, ◌⊎◌, ℕ, zero, suc, true, false, List, [], ◌∷◌, All, Some, ap, inl, inr, length, length-append, refl, slice_get, subst, sym, arith}
-use Rattle.std.specs.Prelude.{Err, None, Ok, OnOk, Option, Result, ⊤, is_ok, unwrap_or}
+use Rattle.std.proofs.Common.{◌≡◌, ◌≢◌, ◌∙◌, ◌+◌, ◌++◌, ◌<◌, ◌≤◌, ◌⊎◌, ℕ, zero, suc, List, [], ◌∷◌, All, Some, ap, inl, inr, length, length-append, refl, slice_get, subst, sym, arith}
+use Rattle.std.specs.Prelude.{Err, IfOk, None, Ok, OnOk, Option, Result, ⊤, unwrap_or}
 use Rattle.std.proofs.lemmas.Option.{slice_get_within}
 use Rattle.atomic_table.specs.Table.{Me, rest}
 use Rattle.nb_core.specs.Log.{Entry, log_of}
@@ -10,15 +10,16 @@ use Rattle.nb_map.specs.Handles.{HandleOf}
 use Rattle.nb_map.specs.Logs.{log}
 use Rattle.nb_map.specs.Maps.{MapOf}
 use Rattle.nb_lasting.proofs.Calling.{taken-is}
-use Rattle.nb_lasting.proofs.Sharing.{Same, anew-log, current_gone, current_here, current_more, decided, known-of, some-is, times_else, times_here, with-else, with-here, with_current}
+use Rattle.nb_lasting.proofs.Sharing.{Same, anew-log, current_here, decided, known-of, some-is, times_else, times_here, with-else, with-here, with_current}
 use Rattle.nb_lasting.proofs.Epochs.{goes_on}
 use Rattle.nb_lasting.specs.Epochs.{HasGoneOnBy}
 use Rattle.nb_lasting.specs.Closing.{HasGathered}
 use Rattle.nb_lasting.specs.Holding.{CanDeal, CanGive, CanRenew, IsIdleGuest}
 use Rattle.nb_map.specs.declared.faults.RenewFault.{RenewFault}
-use Rattle.nb_lasting.proofs.Renewed.{all-from, renewed-all}
+use Rattle.nb_lasting.proofs.Refused.{renewed-all}
+use Rattle.nb_lasting.proofs.Renewed.{all-from, at-all}
 use Rattle.nb_lasting.specs.Gathered.{AreSingle, IsPartedAnew, IsSingle}
-use Rattle.nb_lasting.specs.Renewal.{AreHeld, AreRenewed, CanComeHome, CanDealAnew, CanDealBelow, CanDealShaped, HoldsBelow, HoldsStill, IsIdleToken, blanks, down}
+use Rattle.nb_lasting.specs.Renewal.{AreHeld, AreRenewed, CanComeHome, CanDealAnew, CanDealBelow, KnowOneLog, HoldsBelow, HoldsStill, IsIdleToken, blanks, down}
 use Rattle.nb_lasting.specs.Shared.{Has, HasBegunAnew, HasDealt, HasGiven, HasTaken, Holds, IsCurrent, IsLane, IsOfGuest, FitsLanes, KnowsIn, all_knew, as_guest, given, known_in, known_of, log_in, map_in, rest_outs, times_out}
 use Rattle.nb_lasting.specs.declared.shared.Out.{Out}
 use Rattle.nb_lasting.specs.declared.shared.LaneView.{LaneView}
@@ -532,9 +533,9 @@ dealt-all n me handles none can = record {
   slots = can.slots ∙ ap blanks none;
 }
 
-pub on_ok : {A B P : Type 0} (result : Result A B) → (is_ok result ≡ true → P) → OnOk result P
-on_ok (Ok x) holds = holds refl
-on_ok (Err fault) holds = tt
+pub done_ok : {A B P Q : Type 0} (result : Result A B) → (P → Q) → IfOk result (λ x. P) → OnOk result Q
+done_ok (Ok x) holds is = holds is
+done_ok (Err fault) holds is = tt
 
 -- ---- all handles are made one
 
@@ -574,8 +575,7 @@ still-dealt n me handles holds =
       outs = holds.outs;
       slots = holds.slots;
       held = holds.still.held;
-      current = λ i below.
-          current_gone i (holds.knew i) (holds.still.know i) (holds.still.gone i below);
+      current = holds.still.gone;
     })
 
 pub all-single :
@@ -606,69 +606,64 @@ still-single n me handles some few holds =
 
 module _
     (p : Plan) (me : Me (Option HandleOf) LaneView) (before after : List HandleOf) (some : 1 ≤ p.seats)
-    (few : p.seats ≤ 256) (seated : FitsLanes p.seats me.0) (holds : HoldsStill p.seats me before) where
-  -- what a renewal makes of them, in the words of the token
-  renewed-by :
-      (result : Result ⊤ RenewFault) → IsPartedAnew p before after result
-      → AreRenewed p me.0.map me.0.filled me.0.past holds.still.know after result
-  renewed-by result is =
-      let begun = holds.begun (omega (arith, some)) in
-      let know = holds.still.know in
-      let held = holds.still.held in
-      subst (λ (f : List Event). AreRenewed p me.0.map f me.0.past know after result)
-      (sym begun.0)
-      (subst (λ (l : List Event). AreRenewed p me.0.map holds.epoch.filled l know after result)
-      (sym begun.1)
-      (renewed-all p me.0.map holds.epoch know before after
-      (subst (λ (l : List Event). All (IsOfGuest p.seats) (log_of l)) begun.1 seated.made)
-      (subst (λ (f : List Event). AreHeld me.0.map f holds.epoch.past p.seats know before) begun.0
-      (subst (λ (l : List Event). AreHeld me.0.map me.0.filled l p.seats know before) begun.1 held))
-      (still-single p.seats me before some few holds) result
-      (single-map p.seats me.0.map me.0.filled me.0.past know before some few held) is))
-
+    (few : p.seats ≤ 256) (seated : FitsLanes p.seats me.0) (holds : HoldsStill p.seats me before)
+    (settled : KnowOneLog before) where
+  -- what a renewal makes of them
   pub deals :
       (result : Result ⊤ RenewFault) → IsPartedAnew p before after result
       → (length after ≡ p.seats)
-      × (is_ok result ≡ true → CanDealShaped p (length after) me after)
-      × (is_ok result ≡ false → CanDealBelow (length after) me after)
-  deals (Ok done) is =
-      let anew = (renewed-by (Ok done) is).0 in
+      × ((can : CanDealAnew (length after) me after) × IfOk result (λ done. can.anew.shared.chain.shape ≡ p))
+  deals result is =
       let count = anew.0.held.count in (
         count,
-        (λ good. subst (λ n. CanDealShaped p n me after) (sym count) (
-          record {
-            knew = holds.knew;
-            outs = holds.outs;
-            slots = holds.slots;
-            anew = record {
-              shared = anew.0.shared;
-              next = anew.0.next;
-              fits = anew.0.fits;
-              made = anew.0.made;
-              held = anew.0.held;
-              met = λ i below.
-                  goes_on i (log_of (holds.knew i)) (log_of (holds.still.know i))
-                  (log_of anew.0.next.past) [] [] (holds.still.gone i below) (anew.0.met i below);
-            };
-          },
-          anew.1,
-        )),
-        (λ bad. absurd cc),
+        subst (λ n. (can : CanDealAnew n me after) × IfOk result (λ done. can.anew.shared.chain.shape ≡ p))
+            (sym count) (
+              record {
+                knew = holds.knew;
+                outs = holds.outs;
+                slots = holds.slots;
+                anew = record {
+                  shared = anew.0.shared;
+                  next = anew.0.next;
+                  fits = anew.0.fits;
+                  made = anew.0.made;
+                  held = anew.0.held;
+                  met = λ i below.
+                      goes_on i (log_of (holds.knew i)) (log_of (holds.still.know i))
+                      (log_of anew.0.next.past) [] [] (holds.still.gone i below) (anew.0.met i below);
+                };
+              },
+              anew.1,
+            ),
       )
-  deals (Err fault) is =
-      let as-before = (renewed-by (Err fault) is).1 in
-      let count = as-before.held.count in (
-        count,
-        (λ good. absurd cc),
-        (λ bad. subst (λ n. CanDealBelow n me after) (sym count) (record {
-          knew = holds.knew;
-          know = as-before.know;
-          outs = holds.outs;
-          slots = holds.slots;
-          held = as-before.held;
-          current = λ i below.
-              current_more i (holds.knew i) (holds.still.know i) (as-before.know i)
-              (current_gone i (holds.knew i) (holds.still.know i) (holds.still.gone i below))
-              (as-before.current i below);
-        })),
-      )
+    where
+      begun : (me.0.filled ≡ holds.epoch.filled) × (me.0.past ≡ holds.epoch.past)
+      begun = holds.begun (omega (arith, some))
+
+      held : AreHeld me.0.map holds.epoch.filled holds.epoch.past p.seats holds.still.know before
+      held =
+          subst (λ (f : List Event). AreHeld me.0.map f holds.epoch.past p.seats holds.still.know before)
+          begun.0
+          (subst (λ (l : List Event). AreHeld me.0.map me.0.filled l p.seats holds.still.know before)
+          begun.1 holds.still.held)
+
+      anew : AreRenewed p holds.still.know after result
+      anew =
+          renewed-all p me.0.map holds.epoch holds.still.know before after some seated.fits
+          (subst (λ (l : List Event). All (IsOfGuest p.seats) (log_of l)) begun.1 seated.made) held
+          settled (still-single p.seats me before some few holds) result
+          (single-map p.seats me.0.map me.0.filled me.0.past holds.still.know before some few
+          holds.still.held) is
+
+-- they are all seats of their map
+pub all-of-map :
+    (n : ℕ) (me : Me (Option HandleOf) LaneView) (handles : List HandleOf) → 1 ≤ n → FitsLanes n me.0
+    → HoldsStill n me handles → (single : AreSingle handles)
+    → length handles ≡ single.shared.chain.shape.seats
+all-of-map n me handles some seated holds single =
+    let held = holds.still.held in
+    let first = there_is handles 0 (omega (arith, some, held.count)) in
+    let same : me.0.map ≡ single.shared =
+    sym (held.each 0 first.0 first.1).0.map
+    ∙ (at-all (IsSingle single.shared) handles 0 first.0 single.each first.1).map in
+    held.count ∙ sym seated.fits ∙ ap (λ (m : MapOf). m.chain.shape.seats) same

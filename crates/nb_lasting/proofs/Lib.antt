@@ -6,6 +6,7 @@ pub mod Merging
 pub mod Closed
 pub mod Visiting
 pub mod Renewed
+pub mod Refused
 pub mod Dealt
 pub mod Calling
 pub mod Counted

@@ -2,7 +2,7 @@
 use Rattle.std.proofs.Common.{◌≡◌, ◌∙◌, ◌++◌, ◌<◌, ◌≤◌, ◌^◌, ℕ, cond, zero, suc, List, [], ◌∷◌, All, Some, ap, inl, inr, length, map, refl, slice_get, subst, sym, arith}
 use Rattle.std.specs.FinMap as numbers
 use Rattle.std.specs.List.{AllZip, range_with_len}
-use Rattle.std.specs.Prelude.{◌-◌, Err, IfOk, None, Ok, Option, Result, ⊤, get_or, option_map, unwrap_or}
+use Rattle.std.specs.Prelude.{◌-◌, Err, IfOk, None, Ok, Option, Result, get_or, option_map, unwrap_or}
 use Rattle.std.proofs.lemmas.Bool.{eq-eqb}
 use Rattle.std.proofs.lemmas.List.{append_cancel_right, length-map}
 use Rattle.std.proofs.lemmas.List.Elements.{All-append, All-cons, All-head, All-nil, All-tail}
@@ -21,27 +21,24 @@ use Rattle.nb_core.specs.declared.shapes.TheConstants.{MAX_EXPONENT}
 use Rattle.nb_table.specs.Chains.{SeenBy}
 use Rattle.nb_table.specs.Views.{HasSeen}
 use Rattle.nb_map.specs.Ending.{EndedOf, EndedWith, HasAll, log_left}
-use Rattle.nb_map.specs.Entries.{HasOnlyRead, IsRead}
-use Rattle.nb_map.specs.Bulk.{whole_walk_steps}
 use Rattle.nb_map.specs.Handles.{HandleOf, IsSameMap, handle_on, seats_of}
 use Rattle.nb_map.specs.Logs.{HasLogged, log}
 use Rattle.nb_map.specs.Maps.{MapOf, SeatOf, new_seat, new_seats}
-use Rattle.nb_map.specs.Renewing.{HasRenewed, IsKept}
+use Rattle.nb_map.specs.Renewing.{HasRenewed}
 use Rattle.nb_map.specs.Settling.{HasCaughtUp}
-use Rattle.nb_map.specs.declared.faults.RenewFault.{RenewFault}
 use Rattle.nb_map.specs.declared.faults.SettleFault.{SettleFault}
 use Rattle.nb_lasting.proofs.Calling.{crowded-away, known-then}
 use Rattle.nb_lasting.proofs.Epochs.{leaves, one_log_for_all}
 use Rattle.nb_lasting.proofs.Sharing.{log-as-events}
 use Rattle.nb_lasting.specs.Epochs.{AllKnow, EpochOf, HasGoneOnBy, HaveMetIn, IsOfEpoch, Knows}
-use Rattle.nb_lasting.specs.Gathered.{HaveTooMany, IsPartedCounted, AreSingle, IsPartedAnew, seats_of_each}
-use Rattle.nb_lasting.specs.Renewal.{AreAnew, AreAsBefore, AreHeld, AreRenewed, AreStill}
+use Rattle.nb_lasting.specs.Gathered.{HaveTooMany, IsPartedCounted, AreSingle, seats_of_each}
+use Rattle.nb_lasting.specs.Renewal.{AreAnew, AreHeld, AreStill}
 use Rattle.nb_lasting.specs.Shared.{EpochIn, IsLane, IsOfGuest, KnowsIn, as_events, known_of}
 use Rattle.nb_lasting.specs.inside.Present.{HasSlots}
 
 -- ---- lists by index
 
-some-same : {X : Type 0} (x y : X) → ◌≡◌ {A = Option X} (Some x) (Some y) → x ≡ y
+pub some-same : {X : Type 0} (x y : X) → ◌≡◌ {A = Option X} (Some x) (Some y) → x ≡ y
 some-same x y is = ap (λ o. unwrap_or o x) is
 
 pub at-all : {X : Type 0} (P : X → Type 0) (xs : List X) (i : ℕ) (x : X) → All P xs
@@ -57,7 +54,7 @@ all-from P [] each = All-nil P
 all-from P (x ∷ xs) each =
     All-cons P x xs (each 0 x refl) (all-from P xs (λ i y at. each (suc i) y at))
 
-zip-at : {X : Type 0} (P : X → X → Type 0) (xs ys : List X) (i : ℕ) (y : X) → AllZip P xs ys
+pub zip-at : {X : Type 0} (P : X → X → Type 0) (xs ys : List X) (i : ℕ) (y : X) → AllZip P xs ys
     → slice_get ys i ≡ Some y
     → (x : X) × (slice_get xs i ≡ Some x) × P x y
 zip-at P [] [] i y all at = absurd (omega (arith, slice_get_within [] i y at))
@@ -80,7 +77,7 @@ handle-at [] i s at = absurd (omega (arith, slice_get_within [] i s at))
 handle-at (x ∷ xs) zero s at = (x, refl, some-same x.seat s at)
 handle-at (x ∷ xs) (suc i) s at = handle-at xs i s at
 
-mapped-at : (m : MapOf) (seats : List SeatOf) (i : ℕ) (h : HandleOf)
+pub mapped-at : (m : MapOf) (seats : List SeatOf) (i : ℕ) (h : HandleOf)
     → slice_get (map (handle_on m) seats) i ≡ Some h
     → (s : SeatOf) × (slice_get seats i ≡ Some s) × (h ≡ handle_on m s)
 mapped-at m [] i h at = absurd (omega (arith, slice_get_within [] i h at))
@@ -136,7 +133,7 @@ whole-made e n seats ended whole many past left met =
 abbrev pub HasMade : (List (Call × Reply) → Type 0) → (old new : SeatOf) → Type 0
 HasMade Q old new = (made : List (Call × Reply)) × Q made × HasLogged old new made
 
-zip-weaker :
+pub zip-weaker :
     (P Q : SeatOf → SeatOf → Type 0) → ((x y : SeatOf) → P x y → Q x y) → (xs ys : List SeatOf)
     → AllZip P xs ys → AllZip Q xs ys
 zip-weaker P Q weaker [] [] all = tt
@@ -144,7 +141,7 @@ zip-weaker P Q weaker [] (y ∷ ys) all = absurd all
 zip-weaker P Q weaker (x ∷ xs) [] all = absurd all
 zip-weaker P Q weaker (x ∷ xs) (y ∷ ys) all = (weaker x y all.0, zip-weaker P Q weaker xs ys all.1)
 
-length-zip : (P : SeatOf → SeatOf → Type 0) (xs ys : List SeatOf) → AllZip P xs ys → length xs ≡ length ys
+pub length-zip : (P : SeatOf → SeatOf → Type 0) (xs ys : List SeatOf) → AllZip P xs ys → length xs ≡ length ys
 length-zip P [] [] all = refl
 length-zip P [] (y ∷ ys) all = absurd all
 length-zip P (x ∷ xs) [] all = absurd all
@@ -473,16 +470,16 @@ has-room-left p n m filled past know counted-know before after size keys some he
     ]
 
 module _
-    (p : Plan) (m : MapOf) (e : EpochIn) (knew : ℕ → List Event) (before after : List HandleOf)
+    (p : Plan) (m : MapOf) (e : EpochIn) (knew : ℕ → List Event) (before : List HandleOf)
     (old : All (IsOfGuest p.seats) (log_of e.past))
-    (held : AreHeld m e.filled e.past p.seats knew before) (single : AreSingle before) where
+    (held : AreHeld m e.filled e.past p.seats knew before) where
   knows-at : (i : ℕ) (h : HandleOf) → slice_get before i ≡ Some h
       → Knows (logs-of e) h.seat (log_of (knew i))
   knows-at i h at =
       let knows = (held.each i h at).1 in
       record { later = knows.later; here = knows.here; is = knows.is; replayed = knows.replayed }
 
-  anew : (joined whole : HandleOf) → seats_of joined ≡ seats_of_each before → HasRenewed p joined whole
+  pub anew : (joined whole : HandleOf) → seats_of joined ≡ seats_of_each before → HasRenewed p joined whole
       → (anew : AreAnew p.seats knew (map (handle_on whole.map) (seats_of whole)))
       × (anew.shared.chain.shape ≡ p)
   anew joined whole seats renewed = (
@@ -568,50 +565,6 @@ module _
           (log_of (knew i)) (knows-at i h at) in
           subst (λ l. HasGoneOnBy i (log_of (knew i)) l []) (sym (log-as-events step.0.past))
           (subst (λ n. HasGoneOnBy n (log_of (knew i)) step.0.past []) (held.each i h at).0.number gone)
-
-  -- what a handle with one seat is
-  is-on : (h : HandleOf) → h.map ≡ m → h.reserve ≡ [] → h ≡ handle_on m h.seat
-  is-on h same alone =
-      ap (λ (x : MapOf). record { map = x; seat = h.seat; reserve = h.reserve }) same
-      ∙ ap (λ (r : List SeatOf). record { map = m; seat = h.seat; reserve = r }) alone
-
-  as-before :
-      (joined whole : HandleOf) → joined.map ≡ m → seats_of joined ≡ seats_of_each before
-      → IsKept joined whole
-      → AreAsBefore m e.filled e.past p.seats knew (map (handle_on whole.map) (seats_of whole))
-  as-before joined whole one seats (inl same) =
-      let still = kept-still p.seats m e knew before held joined whole one seats same in
-      record {
-        know = still.know;
-        held = still.held;
-        current = λ i below. record { made = []; reads = All-nil IsRead; gone = still.gone i below };
-      }
-  as-before joined whole one seats (inr (same, reads)) =
-      let moved = zip-weaker (λ old new. HasOnlyRead joined.map old new (whole_walk_steps joined.map.chain.shape))
-      (HasMade (All IsRead)) (λ old new read. (read.made, read.reads, read.logged)) (seats_of joined)
-      (seats_of whole) reads in
-      record {
-        know = knows-of e whole;
-        held = held-after (All IsRead) p.seats m e knew before held joined whole one seats same moved;
-        current = λ i below.
-            let is = gone-after (All IsRead) p.seats m e knew before held joined whole one seats same
-            moved i below in
-            record { made = is.0; reads = is.1; gone = is.2 };
-      }
-
-  pub renewed-all :
-      (result : Result ⊤ RenewFault) → single.shared ≡ m → IsPartedAnew p before after result
-      → AreRenewed p m e.filled e.past knew after result
-  renewed-all (Ok done) one is = (
-    subst (λ hs. (anew : AreAnew p.seats knew hs) × (anew.shared.chain.shape ≡ p)) (sym is.parted)
-        (anew is.joined is.whole is.seats is.renewed),
-    tt,
-  )
-  renewed-all (Err fault) one is = (
-    tt,
-    subst (AreAsBefore m e.filled e.past p.seats knew) (sym is.parted)
-        (as-before is.joined is.whole (is.one_map single ∙ one) is.seats is.kept),
-  )
 
 -- ---- a new map
 

@@ -7,13 +7,12 @@ use prog.Atomic.{either}
 use Rattle.std.specs.Prelude.{◌-◌, None, Option, map, replicate, slice_get, take, unwrap_or}
 use Rattle.std.proofs.lemmas.Bool.Decides.{nat_tests}
 use Rattle.std.proofs.lemmas.List.{append_cancel_right, get_or-set_other, get_or-set_same, length-append, length-map, length-replicate, length-set, set-get_or}
-use Rattle.std.proofs.lemmas.List.Elements.{All-append, All-nil}
+use Rattle.std.proofs.lemmas.List.Elements.{All-nil}
 use Rattle.atomic_table.proofs.Lists.{at_set, exchanged, set_again, set_else, set_here}
 use Rattle.atomic_table.specs.Table.{Act, Allows, Me, Splits, Valid, carried_after, gives, keeps, opening, rest, step, stepped, takes}
 use Rattle.nb_core.specs.Log.{Entry, IsReplayed, log_of}
 use Rattle.nb_core.specs.declared.events.Event.{Event}
 use Rattle.nb_core.specs.Plans.{Plan}
-use Rattle.nb_map.specs.Entries.{IsRead}
 use Rattle.nb_map.specs.Handles.{HandleOf}
 use Rattle.nb_map.specs.Logs.{log}
 use Rattle.nb_map.specs.Maps.{MapOf, SeatOf}
@@ -155,26 +154,9 @@ there (x ∷ hs) (suc i) e = omega (arith, there hs i e)
 
 -- ---- logs
 
--- what is current is so still after reads
-pub current_more :
-    (i : ℕ) (seen middle last : List Event) → IsCurrent i seen middle → IsCurrent i middle last
-    → IsCurrent i seen last
-current_more i seen middle last one two = record {
-  made = two.made ++ one.made;
-  reads = All-append IsRead two.made one.made two.reads one.reads;
-  gone = goes_on i (log_of seen) (log_of middle) (log_of last) one.made two.made one.gone two.gone;
-}
-
 pub current_here : (i : ℕ) (seen : List Event) → IsReplayed (log_of seen) → IsCurrent i seen seen
-current_here i seen replayed = record {
-  made = [];
-  reads = All-nil IsRead;
-  gone = record { later = []; grown = refl; replayed = replayed; own = refl };
-}
-
-pub current_gone :
-    (i : ℕ) (seen whole : List Event) → HasGoneOnBy i (log_of seen) (log_of whole) [] → IsCurrent i seen whole
-current_gone i seen whole gone = record { made = []; reads = All-nil IsRead; gone = gone }
+current_here i seen replayed =
+    record { later = []; grown = refl; replayed = replayed; own = refl }
 
 -- ---- a lane is taken
 
@@ -802,7 +784,7 @@ module _
           with-else rule.seen lane i whole (λ same. absurd (omega (arith, same, past, dealt)))
           ∙ rule.fresh i past
 
-  -- by who has taken it for a renewal that was refused
+  -- by who has taken it, and called nothing
   deal-keeps :
       IsCurrent lane knew whole
       → IsOneLog p (stepped s (word_of lane) 0 id ((lane, Some handle) ∷ more) (given v outs v.seen) gives)
@@ -819,7 +801,8 @@ module _
               subst (IsCurrent i (rule.seen i))
               (sym (ap (with_current rule.current lane whole) same
               ∙ with-here rule.current lane whole))
-              (current_more i (rule.seen i) (rule.current i) whole (rule.goes i below)
+              (goes_on i (log_of (rule.seen i)) (log_of (rule.current i)) (log_of whole) [] []
+              (rule.goes i below)
               (subst (λ n. IsCurrent n (rule.current n) whole) (sym same)
               (subst (λ l. IsCurrent lane l whole) (sym was-current) gone)))
           by (inr (elsewhere, _)) =
@@ -872,11 +855,11 @@ module _
       let found = times_has i v.outs (all i below) in
       let current : rule.current i ≡ found.0.knew =
       ap rule.current (sym found.2) ∙ rule.knew id v found.0 at found.1 in
-      current_more i (rule.seen i) (rule.current i) next.past (rule.goes i below)
+      goes_on i (log_of (rule.seen i)) (log_of (rule.current i)) (log_of next.past) [] []
+      (rule.goes i below)
       (subst (λ l. IsCurrent i l next.past) (sym current)
-      (current_gone i found.0.knew next.past
       (subst (λ n. HasGoneOnBy n (log_of found.0.knew) (log_of next.past) []) found.2
-      (met found.0 found.1))))
+      (met found.0 found.1)))
 
   anew-keeps :
       IsOneLog p

@@ -1,8 +1,8 @@
 -- A guest writes by its own handle while it has all of them.
-use Rattle.std.proofs.Common.{◌≡◌, ◌≢◌, ◌∙◌, ◌++◌, ◌<◌, ◌≤◌, ◌⊎◌, ℕ, zero, suc, List, [], ◌∷◌, Some, ap, inl, inr, length, refl, slice_get, slice_set, subst, sym, arith}
+use Rattle.std.proofs.Common.{◌≡◌, ◌≢◌, ◌∙◌, ◌<◌, ◌≤◌, ◌⊎◌, ℕ, zero, suc, List, [], ◌∷◌, Some, ap, inl, inr, length, refl, slice_get, slice_set, subst, sym, arith}
 use Rattle.std.specs.Prelude.{Err, Ok, Option, Result, unwrap_or}
 use Rattle.std.specs.Result.{IsErrAnd}
-use Rattle.std.proofs.lemmas.List.{length-set}
+use Rattle.std.proofs.lemmas.List.{append-nil, length-set}
 use Rattle.std.proofs.lemmas.Option.{slice_get_within}
 use Rattle.atomic_table.specs.Table.{Me}
 use Rattle.nb_core.specs.Calls.{Fills}
@@ -196,15 +196,14 @@ module _
       → log_of then.seen ≡ log_of (known_of me.0.filled me.0.past wrote.new.seat)
       → HasWrittenIn own me.0 then call result
   wrote-in then is =
-      let mine = holds.mine own below guest in
-      logged.1 own me.0 then (record {
-        reads = mine.made;
-        are_reads = mine.reads;
-        gone = subst (λ l. HasGoneOnBy own (log_of me.0.seen) l ((made_in call result) ++ mine.made)) (sym is)
-            (goes_on own (log_of me.0.seen) (log_of (holds.knew own))
-            (log_of (known_of me.0.filled me.0.past wrote.new.seat)) mine.made (made_in call result) mine.gone
-            goes.1);
-      }) (ap map_of_log is ∙ leaves-map)
+      logged.1 own me.0 then
+      (subst (λ l. HasGoneOnBy own (log_of me.0.seen) l (made_in call result)) (sym is)
+      (subst (HasGoneOnBy own (log_of me.0.seen)
+      (log_of (known_of me.0.filled me.0.past wrote.new.seat))) (append-nil (made_in call result))
+      (goes_on own (log_of me.0.seen) (log_of (holds.knew own))
+      (log_of (known_of me.0.filled me.0.past wrote.new.seat)) [] (made_in call result)
+      (holds.mine own below guest) goes.1)))
+      (ap map_of_log is ∙ leaves-map)
 
   pub wrote-since :
       (old : LaneView) → me.0.seen ≡ old.seen → (then : LaneView)

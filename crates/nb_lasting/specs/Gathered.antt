@@ -31,8 +31,16 @@ pub record AreSingle (handles : List HandleOf) : Type 0 where
   pub some : 1 ≤ length handles
   pub few : length handles ≤ 256
 
--- the handles were one, with all their seats in order; that was made anew, or refused to; and it was
--- parted again
+-- The handle was to be made anew, which was refused; then all its seats have settled.
+pub record IsRested (before after : HandleOf) : Type 0 where
+  pub tried : HandleOf
+  pub kept : IsKept before tried
+  pub size : ℕ
+  pub settled : HaveSettled tried.map (seats_of tried) (seats_of after) size
+  pub same : IsSameMap tried after
+
+-- the handles were one, with all their seats in order; that was made anew, or refused to, and settled;
+-- and it was parted again
 pub record IsPartedAnew (p : Plan) (before after : List HandleOf) (result : Result ⊤ RenewFault) :
     Type 0 where
   pub joined : HandleOf
@@ -41,7 +49,7 @@ pub record IsPartedAnew (p : Plan) (before after : List HandleOf) (result : Resu
   pub seats : seats_of joined ≡ seats_of_each before
   pub parted : after ≡ map (handle_on whole.map) (seats_of whole)
   pub renewed : IfOk result (λ done. HasRenewed p joined whole)
-  pub kept : IfErr result (λ fault. IsKept joined whole)
+  pub rested : IfErr result (λ fault. IsRested joined whole)
   pub full : result ≡ Err renew_fault.Full → HasTooMany p joined
 
 -- the map of these handles has more keys than the last table of the shape has slots

@@ -1,12 +1,11 @@
 -- A map without an end that guests share, each in a thread of its own: what their calls promise, and
 -- what holds at its end. It is told in words of calls alone.
-use Rattle.std.specs.Prelude.{◌≡◌, ◌<◌, ◌∷◌, ◌++◌, ◌⊎◌, ℕ, Bool, List, [], All, Option, Some, length, slice_get}
+use Rattle.std.specs.Prelude.{◌≡◌, ◌<◌, ◌∷◌, ◌++◌, ℕ, Bool, List, [], All, Option, Some, length, slice_get}
 use Rattle.atomic_table.specs.Seated.{TableId}
 use Rattle.nb_core.specs.Log.{Entry, IsReplayed, calls_of, map_of_log}
 use Rattle.nb_core.specs.declared.calls.Call.{Call}
 use Rattle.nb_core.specs.declared.calls.Reply.{Reply}
 use Rattle.nb_map.specs.Ending.{EndedOf, map_left}
-use Rattle.nb_map.specs.Entries.{IsRead}
 use Rattle.nb_lasting.specs.Epochs.{HasGoneOnBy}
 use Rattle.nb_lasting.specs.Lasting.{IsRefusedFor}
 use Rattle.nb_lasting.specs.Shared.{IsOfGuest}
@@ -26,21 +25,10 @@ pub record SharedOf : Type 0 where
 
 -- ---- a guest's calls
 
--- these are all the calls but for some reads
-abbrev pub LacksReads : (made all : List (Call × Reply)) → Type 0
-LacksReads made [] = made ≡ []
-LacksReads made (call ∷ all) =
-    (IsRead call × LacksReads made all)
-    ⊎ ((rest : List (Call × Reply)) × (made ≡ call ∷ rest) × LacksReads rest all)
-
 -- The log goes on to this one. All of it is replayed, and of what is new just these calls are the
--- guest's, the newest first; and maybe reads in its name, by renewals that were refused for want of
--- memory.
-pub record GoesOnTo (guest : GuestOf) (whole : List Entry) (made : List (Call × Reply)) :
-    Type 0 where
-  pub own : List (Call × Reply)
-  pub are : LacksReads made own
-  pub gone : HasGoneOnBy guest.number guest.log whole own
+-- guest's, the newest first.
+abbrev pub GoesOnTo : GuestOf → (whole : List Entry) → (made : List (Call × Reply)) → Type 0
+GoesOnTo guest whole made = HasGoneOnBy guest.number guest.log whole made
 
 -- the guest has made just these calls, the newest first
 pub record GuestHasCalled (before after : GuestOf) (made : List (Call × Reply)) : Type 0 where

@@ -1,5 +1,5 @@
 -- What a token has to hold that gives a lane's handle back.
-use Rattle.std.specs.Prelude.{◌≡◌, ◌++◌, ◌∷◌, ℕ, All, Err, None, Ok, Option, Result, Some, List, [], true}
+use Rattle.std.specs.Prelude.{◌≡◌, ◌∷◌, ℕ, Err, None, Ok, Option, Result, Some, List, [], true}
 use Rattle.atomic_table.specs.Table.{Me}
 use Rattle.nb_core.specs.Plans.{Plan}
 use Rattle.nb_core.specs.Calls.{overflows}
@@ -7,7 +7,6 @@ use Rattle.nb_core.specs.Log.{Entry, log_of, map_of_log}
 use Rattle.nb_core.specs.declared.calls.Call.{Call}
 use Rattle.nb_core.specs.declared.calls.Reply.{Reply}
 use Rattle.nb_core.specs.declared.events.Event.{Event}
-use Rattle.nb_map.specs.Entries.{IsRead}
 use Rattle.nb_map.specs.Handles.{HandleOf}
 use Rattle.nb_map.specs.declared.faults.PutFault.TheVariants as put_fault
 use Rattle.nb_map.specs.declared.faults.PutFault.{PutFault}
@@ -26,7 +25,7 @@ pub record CanGive (lane : ℕ) (me : Me (Option HandleOf) LaneView) : Type 0 wh
   pub holds : Holds lane knew whole handle me
   pub guest : me.0.guest ≡ Some lane
 
--- one that has a lane's handle, by which nothing was called but reads
+-- one that has a lane's handle, by which nothing was called
 pub record CanDeal (lane : ℕ) (me : Me (Option HandleOf) LaneView) : Type 0 where
   pub knew : List Event
   pub whole : List Event
@@ -50,12 +49,11 @@ pub record IsIdleGuest (lane : ℕ) (me : Me (Option HandleOf) LaneView) : Type 
   pub slots : me.1 ≡ []
 
 -- The guest has made these calls: the one log has gone on, all of it is replayed, and of what is new
--- just these calls are the guest's, the newest first, and before them maybe reads of its seat by a
--- renewal that was refused.
-pub record HasCalledIn (lane : ℕ) (before after : LaneView) (made : List (Call × Reply)) : Type 0 where
-  pub reads : List (Call × Reply)
-  pub are_reads : All IsRead reads
-  pub gone : HasGoneOnBy lane (log_of before.seen) (log_of after.seen) (made ++ reads)
+-- just these calls are the guest's, the newest first.
+abbrev pub HasCalledIn :
+    (lane : ℕ) → (before after : LaneView) → (made : List (Call × Reply)) → Type 0
+HasCalledIn lane before after made =
+    HasGoneOnBy lane (log_of before.seen) (log_of after.seen) made
 
 -- why a write through a lane is refused, by the log that the guest knows then
 abbrev pub IsJustIn : Call → List Entry → PutFault → Type 0

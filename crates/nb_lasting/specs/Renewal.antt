@@ -1,12 +1,13 @@
 -- What a renewer holds: the handles of the lanes below a number, and of all lanes at last.
 use Rattle.std.specs.FinMap as numbers
-use Rattle.std.specs.Prelude.{◌≡◌, ◌≢◌, ◌*◌, ◌<◌, ◌≤◌, ℕ, zero, suc, All, List, [], ◌∷◌, Option, Some, None, IfErr, IfOk, Result, ⊤, length, slice_get}
+use Rattle.std.specs.Prelude.{◌≡◌, ◌≢◌, ◌*◌, ◌<◌, ◌≤◌, ℕ, zero, suc, All, List, [], ◌∷◌, Option, Some, None, IfOk, Result, ⊤, length, slice_get}
 use Rattle.atomic_table.specs.Table.{Me}
 use Rattle.nb_core.specs.Log.{Entry, Numbers, log_of, map_of_log}
 use Rattle.nb_core.specs.Meaning.{IsCrowded}
 use Rattle.nb_core.specs.Plans.{Plan}
 use Rattle.nb_core.specs.declared.events.Event.{Event}
 use Rattle.nb_map.specs.Handles.{HandleOf}
+use Rattle.nb_map.specs.Logs.{log}
 use Rattle.nb_map.specs.Maps.{MapOf}
 use Rattle.nb_map.specs.declared.faults.RenewFault.{RenewFault}
 use Rattle.nb_lasting.specs.Epochs.{HasGoneOnBy}
@@ -33,8 +34,8 @@ abbrev pub blanks : ℕ → List (ℕ × Option HandleOf)
 blanks zero = []
 blanks (suc n) = (n, None) ∷ blanks n
 
--- The handles of all lanes are of another map, whose epoch goes on from what each lane's handle
--- knew, by no call of it; and that is what they know. It has a seat for each lane.
+-- The handles of all lanes begin an epoch, of a new map or of the same one: it goes on from what each
+-- lane's handle knew, by no call of it; and that is what they know. The map has a seat for each lane.
 pub record AreAnew (n : ℕ) (knew : ℕ → List Event) (handles : List HandleOf) : Type 0 where
   pub shared : MapOf
   pub next : EpochIn
@@ -43,13 +44,6 @@ pub record AreAnew (n : ℕ) (knew : ℕ → List Event) (handles : List HandleO
   pub held : AreHeld shared next.filled next.past n (λ _. next.past) handles
   pub met : (i : ℕ) → i < n → HasGoneOnBy i (log_of (knew i)) (log_of next.past) []
 
--- They are of the map that they were of, and have called nothing but reads.
-pub record AreAsBefore (m : MapOf) (filled past : List Event) (n : ℕ) (knew : ℕ → List Event)
-    (handles : List HandleOf) : Type 0 where
-  pub know : ℕ → List Event
-  pub held : AreHeld m filled past n know handles
-  pub current : (i : ℕ) → i < n → IsCurrent i (knew i) (know i)
-
 -- They are of the map that they were of, and have called nothing.
 pub record AreStill (m : MapOf) (filled past : List Event) (n : ℕ) (knew : ℕ → List Event)
     (handles : List HandleOf) : Type 0 where
@@ -57,13 +51,17 @@ pub record AreStill (m : MapOf) (filled past : List Event) (n : ℕ) (knew : ℕ
   pub held : AreHeld m filled past n know handles
   pub gone : (i : ℕ) → i < n → HasGoneOnBy i (log_of (knew i)) (log_of (know i)) []
 
--- what a renewal makes of all handles
+-- Their seats have one and the same log.
+pub record KnowOneLog (handles : List HandleOf) : Type 0 where
+  pub whole : List Entry
+  pub logs : (i : ℕ) (h : HandleOf) → slice_get handles i ≡ Some h → log h.seat ≡ whole
+
+-- What a renewal makes of all handles. Where it is refused, the epoch is one of the same map, so that
+-- what the renewal has read is nobody's call.
 abbrev pub AreRenewed :
-    Plan → MapOf → (filled past : List Event) → (ℕ → List Event) → (after : List HandleOf)
-    → Result ⊤ RenewFault → Type 0
-AreRenewed p m filled past knew after result =
-    IfOk result (λ done. (anew : AreAnew p.seats knew after) × (anew.shared.chain.shape ≡ p))
-    × IfErr result (λ fault. AreAsBefore m filled past p.seats knew after)
+    Plan → (ℕ → List Event) → (after : List HandleOf) → Result ⊤ RenewFault → Type 0
+AreRenewed p knew after result =
+    (anew : AreAnew p.seats knew after) × IfOk result (λ done. anew.shared.chain.shape ≡ p)
 
 -- ---- what the renewer's token holds
 
@@ -90,7 +88,7 @@ pub record HoldsStill (n : ℕ) (me : Me (Option HandleOf) LaneView) (handles : 
   pub still : AreStill me.0.map me.0.filled me.0.past n knew handles
   pub mine : (i : ℕ) → i < n → me.0.guest ≡ Some i → IsCurrent i me.0.seen (knew i)
 
--- It has them still, and they have called nothing but reads since.
+-- They can go home: they have called nothing since.
 pub record CanDealBelow (n : ℕ) (me : Me (Option HandleOf) LaneView) (handles : List HandleOf) :
     Type 0 where
   pub knew : ℕ → List Event
@@ -100,8 +98,8 @@ pub record CanDealBelow (n : ℕ) (me : Me (Option HandleOf) LaneView) (handles 
   pub held : AreHeld me.0.map me.0.filled me.0.past n know handles
   pub current : (i : ℕ) → i < n → IsCurrent i (knew i) (know i)
 
--- It has them still. The other guests' have called nothing but reads since; its guest's own one
--- knows this log, which the guest has seen once that one is back.
+-- It has them still. The other guests' have called nothing since; its guest's own one knows this log,
+-- which the guest has seen once that one is back.
 pub record CanComeHome (own : ℕ) (whole : List Entry) (n : ℕ) (me : Me (Option HandleOf) LaneView)
     (handles : List HandleOf) : Type 0 where
   pub knew : ℕ → List Event
@@ -114,18 +112,13 @@ pub record CanComeHome (own : ℕ) (whole : List Entry) (n : ℕ) (me : Me (Opti
   pub due : own < n → log_of (know own) ≡ whole
   pub seen : n ≤ own → log_of me.0.seen ≡ whole
 
--- It has those of all lanes, and they are of a new map.
+-- It has those of all lanes, and they begin an epoch.
 pub record CanDealAnew (n : ℕ) (me : Me (Option HandleOf) LaneView) (handles : List HandleOf) :
     Type 0 where
   pub knew : ℕ → List Event
   pub outs : me.0.outs ≡ down knew n
   pub slots : me.1 ≡ blanks n
   pub anew : AreAnew n knew handles
-
--- and that map is of this shape
-abbrev pub CanDealShaped :
-    Plan → ℕ → Me (Option HandleOf) LaneView → (handles : List HandleOf) → Type 0
-CanDealShaped p n me handles = (can : CanDealAnew n me handles) × (can.anew.shared.chain.shape ≡ p)
 
 -- a token that has no lane's handle
 pub record IsIdleToken (me : Me (Option HandleOf) LaneView) : Type 0 where
@@ -154,7 +147,7 @@ pub record IsFullAt (lane : ℕ) (handles : List HandleOf) (content : Numbers) :
 -- ---- a map that was made anew
 
 -- The token's map has slots for twice the keys of the map that all handles knew, and the guest's log
--- goes on to theirs by no call of the guest but reads.
+-- goes on to theirs by no call of the guest.
 pub record HasRoomAnew (own : ℕ) (before after : LaneView) : Type 0 where
   pub whole : List Event
   pub current : IsCurrent own before.seen whole

@@ -9,11 +9,8 @@ use Rattle.atomic_table.specs.Seated.{TableId}
 use Rattle.atomic_table.specs.Table.{Me, State, Step, rest}
 use Rattle.nb_core.specs.Log.{Entry, IsReplayed, log_of, map_of_log}
 use Rattle.nb_core.specs.Plans.{Plan}
-use Rattle.nb_core.specs.declared.calls.Call.{Call}
-use Rattle.nb_core.specs.declared.calls.Reply.{Reply}
 use Rattle.nb_core.specs.declared.events.Event.{Event}
 use Rattle.nb_core.specs.declared.events.Event.TheVariants.{Read}
-use Rattle.nb_map.specs.Entries.{IsRead}
 use Rattle.nb_map.specs.Handles.{HandleOf}
 use Rattle.nb_map.specs.Logs.{log}
 use Rattle.nb_map.specs.Maps.{MapOf, SeatOf}
@@ -53,12 +50,9 @@ pub record KnowsIn (filled past : List Event) (seat : SeatOf) (whole : List Even
   pub is : log_of whole ≡ later ++ log_of past
   pub replayed : IsReplayed (log_of whole)
 
--- the one log has gone on from this log to that one, with no more calls of the lane than reads,
--- which a renewal that was refused has made
-pub record IsCurrent (lane : ℕ) (seen whole : List Event) : Type 0 where
-  pub made : List (Call × Reply)
-  pub reads : All IsRead made
-  pub gone : HasGoneOnBy lane (log_of seen) (log_of whole) made
+-- the one log has gone on from this log to that one, by no call of the lane
+abbrev pub IsCurrent : (lane : ℕ) → (seen whole : List Event) → Type 0
+IsCurrent lane seen whole = HasGoneOnBy lane (log_of seen) (log_of whole) []
 
 -- the call is one of the guests', of whom there are so many
 abbrev pub IsOfGuest : ℕ → Entry → Type 0

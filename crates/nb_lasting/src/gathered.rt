@@ -1,9 +1,9 @@
 //! All handles of a map, each with one seat, are made one, which is counted or made anew, and parted
 //! again.
-ghost use Rattle.std.specs.Prelude.{IfErr, IfOk, length, map, ◌<◌, ◌≡◌};
+ghost use Rattle.std.specs.Prelude.{IfErr, IfOk, ℕ, length, map, ◌<◌, ◌≡◌};
 ghost use Rattle.nb_core.specs.declared.calls.Call.TheVariants as call;
-ghost use Rattle.nb_map.specs.Handles.{HandleOf, handle_on, seats_of};
-ghost use Rattle.nb_map.specs.Renewing.{HasRenewed, IsKept};
+ghost use Rattle.nb_map.specs.Handles.{HandleOf, IsSameMap, IsWhole, handle_on, seats_of};
+ghost use Rattle.nb_map.specs.Settling.{HaveSettled};
 ghost use Rattle.nb_lasting.specs.Gathered.{IsPartedCounted, AreSingle, HasWrittenBy, IsPartedAnew, seats_of_each};
 
 use nb_core::{Change, Key, Reply, Shape, Want};
@@ -39,7 +39,24 @@ fn parted<R: Wait>(rt: &R, alloc: Global, whole: Handle) -> Vec<Handle>
     unreachable!()
 }
 
-/// Handles of a new map in place of these, or of the same map, where that is refused.
+/// All seats learn of all calls. It waits for the memory for four small vectors.
+fn settle<R: Wait>(rt: &R, alloc: Global, whole: &mut Handle)
+    requires whole { IsWhole whole.old }
+    ensures settled { (size : ℕ) × HaveSettled whole.old.map (seats_of whole.old) (seats_of whole.new) size }
+    ensures map { IsSameMap whole.old whole.new }
+{
+    for _ in rt.forever() {
+        match whole.settle(alloc) {
+            Ok(_) => return,
+            Err(SettleFault::OutOfMemory) => {}
+            Err(SettleFault::NotAll) => unreachable!(),
+        }
+    }
+    unreachable!()
+}
+
+/// Handles of a new map in place of these. Where that is refused they are of the same map, and all of
+/// them know what the refused renewal has read.
 pub(crate) fn parted_anew<R: Wait>(
     rt: &R,
     alloc: Global,
@@ -47,10 +64,15 @@ pub(crate) fn parted_anew<R: Wait>(
     shape: Shape,
 ) -> (Vec<Handle>, Result<(), RenewFault>)
     requires single { AreSingle handles.items }
+    requires all { (single : AreSingle handles.items)
+        → length handles.items ≡ single.shared.chain.shape.seats }
     ensures { IsPartedAnew shape handles.items result.0.items result.1 }
 {
     let mut whole = joined(handles);
     let renewed = whole.renew(alloc, shape);
+    if renewed.is_err() {
+        settle(rt, alloc, &mut whole);
+    }
     (parted(rt, alloc, whole), renewed)
 }
 

@@ -1,5 +1,5 @@
 //! The map is made anew while threads call: who does it takes all lanes' handles as they come home.
-ghost use Rattle.std.specs.Prelude.{Err, IfOk, List, OnErr, OnOk, Some, [], ◌+◌, ◌*◌, ◌<◌, ◌≤◌, ◌≡◌, ◌↔◌, false, length, true, vec_capacity};
+ghost use Rattle.std.specs.Prelude.{Err, IfOk, List, OnErr, OnOk, Some, [], ◌+◌, ◌*◌, ◌<◌, ◌≤◌, ◌≡◌, ◌↔◌, length, true, vec_capacity};
 ghost use Rattle.nb_core.specs.Log.{Entry, IsReplayed, log_of, map_of_log};
 ghost use Rattle.nb_core.specs.declared.calls.Call.TheVariants as call;
 ghost use Rattle.nb_map.specs.declared.faults.PutFault.TheVariants as put_fault;
@@ -7,7 +7,7 @@ ghost use Rattle.nb_map.specs.declared.faults.RenewFault.TheVariants as renew_fa
 ghost use Rattle.nb_lasting.specs.Gathered.{HaveTooMany};
 ghost use Rattle.nb_lasting.specs.Holding.{HasCalledIn, HasTriedIn, IsIdleGuest, tried_of};
 ghost use Rattle.nb_lasting.specs.Lasting.{IsNewKey};
-ghost use Rattle.nb_lasting.specs.Renewal.{CanComeHome, CanDealAnew, CanDealBelow, HoldsBelow, HasRoomAnew, HoldsStill, IsFullAt, IsIdleToken, IsSameGuest};
+ghost use Rattle.nb_lasting.specs.Renewal.{CanComeHome, CanDealAnew, CanDealBelow, HoldsBelow, HasRoomAnew, KnowOneLog, HoldsStill, IsFullAt, IsIdleToken, IsSameGuest};
 ghost use Rattle.nb_lasting.specs.Shared.{FitsLanes};
 ghost use Rattle.nb_lasting.specs.declared.faults.GrowFault.TheVariants as fault;
 
@@ -62,7 +62,7 @@ fn deal(row: &Row, token: &mut Token, handles: &mut Vec<Handle>, lane: usize)
     give_back(row, token, lane);
 }
 
-/// The same of the last lane of all, where the handles are those of a new map.
+/// The same of the last lane of all, where the handles begin an epoch.
 fn deal_anew(row: &Row, token: &mut Token, handles: &mut Vec<Handle>, lane: usize)
     requires table { token.old.table_id ≡ row.now.table_id }
     requires lane { lane + 1 ≡ row.now.key.seats }
@@ -174,35 +174,28 @@ pub(crate) fn all_home(row: &Row, token: &mut Token, handles: Vec<Handle>, own: 
     }
 }
 
-/// Puts the handles of all lanes back, of a new map or of the map that there was.
-fn deal_renewed(row: &Row, token: &mut Token, handles: Vec<Handle>, renewed: bool)
+/// Puts the handles of all lanes back, which begin an epoch.
+fn deal_renewed(row: &Row, token: &mut Token, handles: Vec<Handle>)
     requires table { token.old.table_id ≡ row.now.table_id }
     requires lanes { length handles.items ≡ row.now.key.seats }
     requires some { 1 ≤ row.now.key.seats }
     requires words { row.now.table_id.words ≡ 8 * row.now.key.seats }
     requires few { row.now.key.seats ≤ 256 }
-    requires anew { renewed ≡ true
-        → CanDealAnew (length handles.items) token.old.me handles.items }
-    requires as_before { renewed ≡ false
-        → CanDealBelow (length handles.items) token.old.me handles.items }
+    requires anew { CanDealAnew (length handles.items) token.old.me handles.items }
     ensures table { token.new.table_id ≡ token.old.table_id }
     ensures guest { IsSameGuest token.old.me.0 token.new.me.0 }
-    ensures map { renewed ≡ true
-        → (can : CanDealAnew (length handles.items) token.old.me handles.items)
+    ensures map { (can : CanDealAnew (length handles.items) token.old.me handles.items)
         → token.new.me.0.map ≡ can.anew.shared }
     ensures idle { IsIdleToken token.new.me }
 {
     let mut handles = handles;
-    if renewed {
-        let lane = handles.len() - 1;
-        deal_anew(row, token, &mut handles, lane);
-        deal_all(row, token, handles);
-    } else {
-        deal_all(row, token, handles);
-    }
+    let lane = handles.len() - 1;
+    deal_anew(row, token, &mut handles, lane);
+    deal_all(row, token, handles);
 }
 
-/// Makes the map anew with all handles, and puts them back.
+/// Makes the map anew with all handles, and puts them back. Where that is refused, an epoch of the same
+/// map begins: so what was read for it is nobody's call.
 fn renew_all<R: Wait>(
     rt: &R,
     hall: &Hall,
@@ -214,6 +207,7 @@ fn renew_all<R: Wait>(
     requires shape { shape.seats ≡ hall.now.table.shared.key.seats }
     requires seated { FitsLanes shape.seats token.old.me.0 }
     requires holds { HoldsStill shape.seats token.old.me handles.items }
+    requires settled { KnowOneLog handles.items }
     ensures table { token.new.table_id ≡ token.old.table_id }
     ensures guest { IsSameGuest token.old.me.0 token.new.me.0 }
     ensures idle { IsIdleToken token.new.me }
@@ -221,9 +215,9 @@ fn renew_all<R: Wait>(
     ensures full { result ≡ Err renew_fault.Full → HaveTooMany shape handles.items }
 {
     let (handles, renewed) = parted_anew(rt, hall.alloc, handles, shape);
-    let made = renewed.is_ok();
-    hall.renewals.fetch_add(u64::from(made), Ordering::SeqCst);
-    deal_renewed(&hall.table.shared, token, handles, made);
+    hall.renewals
+        .fetch_add(u64::from(renewed.is_ok()), Ordering::SeqCst);
+    deal_renewed(&hall.table.shared, token, handles);
     renewed
 }
 

@@ -8,7 +8,8 @@
 //!
 //! The rule (`IsOneLog` in `specs/Shared.antt`): there is one map, with its epoch, and each handle at home is its lane's, of this map. In
 //! each lane a log is current: what the handle at home knows, or what it knew when it was taken. What the lane's guest has seen goes on to
-//! that by no call of the guest; a renewal that is refused for memory makes reads by the seats, so such reads may be among what is new.
+//! that by no call of the guest. A renewal that is refused makes reads by the seats: then an epoch of the same map begins, which they have
+//! filled, and the one log lacks them.
 //! A lane is out exactly where one view has it, once. Each lane has one guest at most. At the end one token takes the place of each guest
 //! in turn (`become_guest`), and its lane: so it learns that what each has seen goes on to the one log.
 //!

@@ -1,13 +1,15 @@
+use Rattle.std.proofs.Common.{◌∙◌, ap, length, sym}
+use Rattle.nb_map.specs.Maps.{MapOf}
+use Rattle.nb_lasting.proofs.Refused.{if-refused, still-whole}
+use Rattle.nb_lasting.proofs.Renewed.{length-each}
 use Rattle.nb_lasting.proofs.gathered.parted_anew.Goals as goal
 
-pub returns : goal.returns
-returns g c = record {
-  joined = c.joined-whole.result;
-  whole = c.renew-renewed.new.self;
-  one_map = c.joined-whole.ensures.map;
-  seats = c.joined-whole.ensures.seats;
-  parted = c.parted.ensures;
-  renewed = c.renew-renewed.ensures.renewed;
-  kept = c.renew-renewed.ensures.kept;
-  full = c.renew-renewed.ensures.full;
+pub settle-requires : goal.settle-requires
+settle-requires g c = record {
+  whole = still-whole c.joined-whole.result c.renew-renewed.new.self
+      (if-refused c.renew-renewed.result (sym c.is_err.ensures.value ∙ c.if-is_err.true)
+      c.renew-renewed.ensures.kept)
+      (ap length c.joined-whole.ensures.seats ∙ length-each c.args.handles.items
+      ∙ c.requires.all c.requires.single
+      ∙ ap (λ (m : MapOf). m.chain.shape.seats) (sym (c.joined-whole.ensures.map c.requires.single)));
 }

@@ -3,8 +3,8 @@ use Rattle.std.specs.Prelude.{◌-◌}
 use Rattle.nb_lasting.specs.Renewal.{CanDealAnew}
 use Rattle.nb_lasting.proofs.renewing.deal_renewed.Goals as goal
 
-pub returns-then-renewed-clause-map : goal.returns-then-renewed-clause-map
-returns-then-renewed-clause-map c good can =
+pub returns-clause-map : goal.returns-clause-map
+returns-clause-map c can =
     let n : (c.len-lane.result - 1) + 1 ≡ length c.args.handles.items =
     omega (arith, c.len-lane.ensures, c.requires.lanes, c.requires.some) in
     c.deal_all.ensures.map

@@ -1,6 +1,6 @@
 use Rattle.std.proofs.Common.{◌∙◌, ◌≤◌, ap, subst, sym}
 use Rattle.nb_map.specs.Maps.{MapOf}
-use Rattle.nb_lasting.proofs.Dealt.{deals, on_ok, still-single}
+use Rattle.nb_lasting.proofs.Dealt.{all-of-map, deals, done_ok, still-single}
 use Rattle.nb_lasting.proofs.renewing.renew_all.Goals as goal
 
 pub parted_anew-handles-requires : goal.parted_anew-handles-requires
@@ -10,6 +10,8 @@ parted_anew-handles-requires g c =
       single = still-single c.args.shape.seats c.args.token.now.me c.args.handles.items
           (subst (λ n. 1 ≤ n) (sym seats) c.args.hall.now.some) (subst (λ n. n ≤ 256) (sym seats) c.args.hall.now.few)
           c.requires.holds;
+      all = all-of-map c.args.shape.seats c.args.token.now.me c.args.handles.items
+          (subst (λ n. 1 ≤ n) (sym seats) c.args.hall.now.some) c.requires.seated c.requires.holds;
     }
 
 pub deal_renewed-requires : goal.deal_renewed-requires
@@ -18,15 +20,14 @@ deal_renewed-requires g c =
     let done = deals c.args.shape c.args.token.now.me c.args.handles.items
     c.parted_anew-handles.result.0.items (subst (λ n. 1 ≤ n) (sym seats) c.args.hall.now.some)
     (subst (λ n. n ≤ 256) (sym seats) c.args.hall.now.few) c.requires.seated c.requires.holds
-    c.parted_anew-handles.result.1 c.parted_anew-handles.ensures in
+    c.requires.settled c.parted_anew-handles.result.1 c.parted_anew-handles.ensures in
     record {
       table = c.requires.table;
       lanes = done.0 ∙ seats;
       some = c.args.hall.now.some;
       words = c.args.hall.now.words;
       few = c.args.hall.now.few;
-      anew = λ good. (done.1 (sym c.is_ok-made.ensures.value ∙ good)).0;
-      as_before = λ bad. done.2 (sym c.is_ok-made.ensures.value ∙ bad);
+      anew = done.1.0;
     }
 
 pub returns-clause-anew : goal.returns-clause-anew
@@ -35,12 +36,9 @@ returns-clause-anew g c =
     let done = deals c.args.shape c.args.token.now.me c.args.handles.items
     c.parted_anew-handles.result.0.items (subst (λ n. 1 ≤ n) (sym seats) c.args.hall.now.some)
     (subst (λ n. n ≤ 256) (sym seats) c.args.hall.now.few) c.requires.seated c.requires.holds
-    c.parted_anew-handles.result.1 c.parted_anew-handles.ensures in
-    on_ok c.parted_anew-handles.result.1 (λ good.
-    let shaped = done.1 good in
-    ap (λ (m : MapOf). m.chain.shape)
-    (c.deal_renewed.ensures.map (c.is_ok-made.ensures.value ∙ good) shaped.0)
-    ∙ shaped.1)
+    c.requires.settled c.parted_anew-handles.result.1 c.parted_anew-handles.ensures in
+    done_ok c.parted_anew-handles.result.1 (λ shaped.
+    ap (λ (m : MapOf). m.chain.shape) (c.deal_renewed.ensures.map done.1.0) ∙ shaped) done.1.1
 
 pub returns-clause-full : goal.returns-clause-full
 returns-clause-full g c full =

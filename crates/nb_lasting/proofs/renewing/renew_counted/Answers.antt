@@ -2,7 +2,7 @@ use Rattle.std.proofs.Common.{◌≡◌, ◌∙◌, ◌*◌, ◌<◌, ◌≤◌,
 use Rattle.nb_core.specs.Log.{log_of}
 use Rattle.nb_lasting.specs.Renewal.{HoldsStill}
 use Rattle.nb_lasting.specs.inside.Present.{HasSlots}
-use Rattle.nb_lasting.proofs.Counted.{called-home, can-come-home, full-home, nothing-seen, room-anew, room-left, still-by, still-holds}
+use Rattle.nb_lasting.proofs.Counted.{called-home, can-come-home, full-home, nothing-seen, one-log, room-anew, room-left, still-by, still-holds}
 use Rattle.nb_lasting.proofs.Dealt.{still-dealt, still-single}
 use Rattle.nb_lasting.proofs.renewing.renew_counted.Goals as goal
 
@@ -87,6 +87,12 @@ renew_all-requires-clause-holds g c =
     subst (λ k. HoldsStill k me after)
     (sym (c.shape_for-shape.ensures.seats ∙ c.slot_count.ensures ∙ c.args.hall.now.slots))
     (still-holds n me before after some few holds still)
+
+pub renew_all-requires-clause-settled : goal.renew_all-requires-clause-settled
+renew_all-requires-clause-settled g c =
+    one-log c.args.hall.now.table.shared.key.seats c.args.token.now.me c.args.handles.items
+    c.counted-handles.result.0.items c.args.hall.now.some c.args.hall.now.few c.requires.holds
+    c.counted-handles.result.1 c.counted-handles.ensures c.in-Ok.size c.in-Ok.is
 
 pub unreachable-requires : goal.unreachable-requires
 unreachable-requires g c =
