@@ -9,7 +9,7 @@ use Rattle.std.proofs.lemmas.List.Elements.{All-cons, All-head, All-tail}
 use Rattle.nb_core.specs.Log.{Entry, IsReplayed, calls_of, log_of, map_after, map_of_log, reply_of}
 use Rattle.nb_core.specs.declared.calls.Call.{Call}
 use Rattle.nb_core.specs.declared.calls.Reply.{Reply}
-use Rattle.nb_map.specs.Ending.{EndedOf}
+use Rattle.nb_map.specs.Ending.{EndedOf, map_left}
 use Rattle.nb_map.specs.Entries.{IsRead}
 use Rattle.nb_lasting.proofs.Dealt.{there_is}
 use Rattle.nb_lasting.proofs.Epochs.{goes_on}
@@ -293,7 +293,7 @@ one_log_of_guests = λ n shared new last ended made come called end.
   where
     one : (n : ℕ) (shared : SharedOf) (new last : List GuestOf) (ended : EndedOf) (made : ℕ → List (Call × Reply))
         → HaveCome n shared new → HaveCalled n new last made → HaveEnded last ended
-        → IsOneLogOf n made ended
+        → IsOneLogOf n made (map_left ended)
     one n shared new last ended made come called end =
         let whole = alone end.whole mine end.replayed lacks in (
           whole.0,
