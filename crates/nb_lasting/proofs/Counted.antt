@@ -1,7 +1,7 @@
 -- A guest counts the map with all handles, and gives them back.
 use Rattle.std.proofs.Common.{◌≡◌, ◌∙◌, ◌*◌, ◌<◌, ◌≤◌, ◌^◌, ℕ, List, [], Some, ap, length, refl, subst, sym, arith}
 use Rattle.std.specs.FinMap as numbers
-use Rattle.std.specs.Prelude.{IfOk, Ok, Option, Result}
+use Rattle.std.specs.Prelude.{IfOk, Ok, Option, Result, max}
 use Rattle.atomic_table.specs.Table.{Me}
 use Rattle.nb_core.specs.Log.{Entry, IsReplayed, Numbers, log_of, map_of_log}
 use Rattle.nb_core.specs.Meaning.{IsCrowded}
@@ -31,7 +31,7 @@ pub called-from :
 called-from lane before me then made same called =
     subst (λ (l : List Event). HasGoneOnBy lane (log_of l) (log_of then.seen) made) same called
 
-if-ok : {A B : Type 0} (result : Result A B) (x : A) (P : A → Type 0) → result ≡ Ok x → IfOk result P
+pub if-ok : {A B : Type 0} (result : Result A B) (x : A) (P : A → Type 0) → result ≡ Ok x → IfOk result P
     → P x
 if-ok result x P is holds = subst (λ r. IfOk r P) is holds
 
@@ -161,9 +161,10 @@ module _
   pub room-anew :
       (result : Result ℕ SettleFault) (is : IsPartedCounted before after result) (size : ℕ)
       → result ≡ Ok size → (own : ℕ) → me.0.guest ≡ Some own → own < n → (keys : ℕ)
-      → keys ≡ 2 * size → (then : LaneView) → HasSlots keys then.map.chain.shape
-      → HasRoomAnew own me.0 then
-  room-anew result is size counted own guest below keys twice then room =
+      → (least : ℕ) → keys ≡ max (2 * size) least → (then : LaneView)
+      → HasSlots keys then.map.chain.shape
+      → HasRoomAnew least own me.0 then
+  room-anew result is size counted own guest below keys least twice then room =
       let known = still-by result is in
       let first = there_is before own (omega (arith, below, holds.still.held.count)) in
       let counts = if-ok result size (AreCountedIn me.0.map known.0.know before after) counted known.1 in
@@ -172,7 +173,7 @@ module _
         current = goes_on own (log_of me.0.seen) (log_of (holds.knew own))
             (log_of (known.0.know own)) [] [] (holds.mine own below guest) (known.0.gone own below);
         room = subst (λ k. HasSlots k then.map.chain.shape)
-            (twice ∙ ap (λ k. 2 * k) (counts.at own first.0 first.1).keys) room;
+            (twice ∙ ap (λ k. max (2 * k) least) (counts.at own first.0 first.1).keys) room;
       }
 
   -- all have one log

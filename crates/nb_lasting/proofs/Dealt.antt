@@ -281,10 +281,10 @@ module _
     (lane : ℕ) (me new after : Me (Option HandleOf) LaneView) (handles before : List HandleOf)
     (handle : HandleOf) (popped-is : before ≡ handles ++ handle ∷ [])
     (is : new ≡ (me.0, (lane, Some handle) ∷ rest me.1)) where
-  new-view : new.0 ≡ me.0
+  pub new-view : new.0 ≡ me.0
   new-view = ap (λ (m : Me (Option HandleOf) LaneView). m.0) is
 
-  new-slot : new.1 ≡ (lane, Some handle) ∷ rest new.1
+  pub new-slot : new.1 ≡ (lane, Some handle) ∷ rest new.1
   new-slot =
       let e = ap (λ (m : Me (Option HandleOf) LaneView). m.1) is in
       e ∙ ap (λ l. (lane, Some handle) ∷ l) (sym (ap rest e))
@@ -293,7 +293,7 @@ module _
       → new.0.outs ≡ record { lane = lane; knew = knew lane } ∷ down knew lane
   outs-is knew outs = ap (λ (v : LaneView). v.outs) new-view ∙ outs ∙ down_more knew lane
 
-  slots-left : me.1 ≡ blanks (lane + 1) → after.1 ≡ rest new.1 → after.1 ≡ blanks lane
+  pub slots-left : me.1 ≡ blanks (lane + 1) → after.1 ≡ rest new.1 → after.1 ≡ blanks lane
   slots-left slots left =
       left
       ∙ (ap rest (ap (λ (m : Me (Option HandleOf) LaneView). m.1) is)
@@ -301,11 +301,11 @@ module _
 
   module _ (knew know : ℕ → List Event) (outs : me.0.outs ≡ down knew (lane + 1))
       (held : AreHeld me.0.map me.0.filled me.0.past (lane + 1) know before) where
-    knows-last : KnowsIn me.0.filled me.0.past handle.seat (know lane)
+    pub knows-last : KnowsIn me.0.filled me.0.past handle.seat (know lane)
     knows-last =
         (popped lane me.0.map me.0.filled me.0.past know handles before handle popped-is held).1.1
 
-    holds-last : Holds lane (knew lane) (know lane) handle new
+    pub holds-last : Holds lane (knew lane) (know lane) handle new
     holds-last =
         let one = (popped lane me.0.map me.0.filled me.0.past know handles before handle popped-is
         held).1 in
@@ -319,7 +319,7 @@ module _
         }
 
     -- the others, when the view has lost the last lane alone, or seen more
-    held-left : (seen : List Event) → after.0 ≡ given new.0 (rest_outs new.0.outs) seen
+    pub held-left : (seen : List Event) → after.0 ≡ given new.0 (rest_outs new.0.outs) seen
         → AreHeld after.0.map after.0.filled after.0.past lane know handles
     held-left seen gone =
         subst (λ (m : MapOf). AreHeld m after.0.filled after.0.past lane know handles)
@@ -330,7 +330,7 @@ module _
         (sym (ap (λ (v : LaneView). v.past) gone ∙ ap (λ (v : LaneView). v.past) new-view))
         (popped lane me.0.map me.0.filled me.0.past know handles before handle popped-is held).0))
 
-    outs-left : (seen : List Event) → after.0 ≡ given new.0 (rest_outs new.0.outs) seen
+    pub outs-left : (seen : List Event) → after.0 ≡ given new.0 (rest_outs new.0.outs) seen
         → after.0.outs ≡ down knew lane
     outs-left seen gone = ap (λ (v : LaneView). v.outs) gone ∙ ap rest_outs (outs-is knew outs)
 
@@ -563,6 +563,13 @@ held-still n me handles holds = record {
   };
   mine = holds.mine;
 }
+
+pub held-knew :
+    (n : ℕ) (me : Me (Option HandleOf) LaneView) (handles : List HandleOf)
+    (holds : HoldsBelow n me handles)
+    → (held-still n me handles holds).knew ≡ holds.knew
+unfolding held-still
+held-knew n me handles holds = refl
 
 -- so they can be dealt
 pub still-dealt :

@@ -13,4 +13,6 @@ pub mod Counted
 pub mod Written
 pub mod Logged
 pub mod Sizes
+pub mod Handing
+pub mod Settled
 pub mod Theorems

@@ -302,6 +302,7 @@ pub record AreCountedIn (m : MapOf) (know : ℕ → List Event) (before after : 
   pub whole : List Entry
   pub logs : (i : ℕ) (h : HandleOf) → slice_get after i ≡ Some h → log h.seat ≡ whole
   pub keys : size ≡ length (numbers.entries (map_of_log whole))
+  pub made : All (IsOfGuest (length before)) whole
 
 -- handles that were counted have called nothing, and each knows the map of so many keys
 pub counted-still :
@@ -336,6 +337,8 @@ counted-still n m e knew before after held single one (Ok size) is =
             (seats_of is.joined) (seats_of is.whole) i s.0 is.settled.each s.1 in
             ap (λ (x : HandleOf). log x.seat) s.2 ∙ caught.2.knows;
         keys = is.settled.keys;
+        made = subst (λ k. All (IsOfGuest k) (log_of is.settled.tables.history))
+            (ap length is.seats ∙ length-each before) is.settled.ended.made;
       },
     )
   where

@@ -1060,7 +1060,7 @@ opens p m handles slots words fits count each is zeros =
 
 -- ---- another token
 
-holders_more :
+pub holders_more :
     (i : ℕ) (views : List LaneView) (v : LaneView) → v.outs ≡ []
     → holders i (views ++ v ∷ []) ≡ holders i views
 holders_more i [] v none-held = let e = ap (times_out i) none-held in omega (arith, e)

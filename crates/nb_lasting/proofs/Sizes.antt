@@ -18,6 +18,11 @@ greatest e many = of (cases_lt e 28)
         absurd (omega (arith, few, many))
     of (inr more) = pow_mono more
 
+-- and for fewer it has slots, too
+pub slots_fewer : (p : Plan) (few keys : ℕ) → few ≤ keys → HasSlots keys p → HasSlots few p
+slots_fewer p few keys fewer (inl more) = inl (omega (arith, fewer, more))
+slots_fewer p few keys fewer (inr great) = inr great
+
 -- a shape that was made for so many keys, or for as many as there may be, has the slots
 pub has-slots :
     (p : Plan) (keys most : ℕ) → most ≡ min (max keys 20) MOST_KEYS → HasRoomFor p most

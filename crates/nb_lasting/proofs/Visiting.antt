@@ -6,7 +6,7 @@ use Rattle.std.proofs.lemmas.List.{append-nil}
 use Rattle.nb_core.specs.Log.{Entry, IsReplayed, calls_of, log_of, map_of_log}
 use Rattle.nb_core.specs.declared.calls.Call.{Call}
 use Rattle.nb_core.specs.declared.calls.Reply.{Reply}
-use Rattle.nb_map.specs.Ending.{EndedOf}
+use Rattle.nb_map.specs.Ending.{EndedOf, map_left}
 use Rattle.nb_lasting.proofs.Dealt.{there_is}
 use Rattle.nb_lasting.proofs.Epochs.{goes_on}
 use Rattle.nb_lasting.specs.Epochs.{HasGoneOnBy}
@@ -124,7 +124,7 @@ one_log_of_guests = λ n shared new last ended made come called end.
   where
     one : (n : ℕ) (shared : SharedOf) (new last : List GuestOf) (ended : EndedOf) (made : ℕ → List (Call × Reply))
         → HaveCome n shared new → HaveCalled n new last made → HaveEnded last ended
-        → IsOneLogOf n made ended
+        → IsOneLogOf n made (map_left ended)
     one n shared new last ended made come called end = (
       end.whole,
       end.replayed,

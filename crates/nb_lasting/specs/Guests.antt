@@ -1,8 +1,9 @@
 -- A map without an end that guests share, each in a thread of its own: what their calls promise, and
 -- what holds at its end. It is told in words of calls alone.
-use Rattle.std.specs.Prelude.{◌≡◌, ◌<◌, ◌∷◌, ◌++◌, ℕ, Bool, List, [], All, Option, Some, length, slice_get}
+use Rattle.std.specs.FinMap as numbers
+use Rattle.std.specs.Prelude.{◌≡◌, ◌<◌, ◌∷◌, ◌++◌, ℕ, Bool, List, [], All, Option, Some, length, map, slice_get}
 use Rattle.atomic_table.specs.Seated.{TableId}
-use Rattle.nb_core.specs.Log.{Entry, IsReplayed, calls_of, map_of_log}
+use Rattle.nb_core.specs.Log.{Entry, IsReplayed, Numbers, calls_of, map_of_log}
 use Rattle.nb_core.specs.declared.calls.Call.{Call}
 use Rattle.nb_core.specs.declared.calls.Reply.{Reply}
 use Rattle.nb_map.specs.Ending.{EndedOf, map_left}
@@ -83,6 +84,22 @@ pub record HaveEnded (guests : List GuestOf) (ended : EndedOf) : Type 0 where
       (i : ℕ) (guest : GuestOf) → slice_get guests i ≡ Some guest → GoesOnTo guest whole []
   pub made : All (IsOfGuest (length guests)) whole
 
+-- the guest, which knows this log
+abbrev pub with_log : List Entry → GuestOf → GuestOf
+with_log whole guest = record guest { log = whole }
+
+-- There is one log of all calls until now, and it is replayed. Each guest's log goes on to it by no
+-- call of that guest, and is this log from now on. Each entry is one guest's. The map that it leaves
+-- has so many keys.
+pub record GuestsHaveSettled (before after : List GuestOf) (size : ℕ) : Type 0 where
+  pub whole : List Entry
+  pub replayed : IsReplayed whole
+  pub each :
+      (i : ℕ) (guest : GuestOf) → slice_get before i ≡ Some guest → GoesOnTo guest whole []
+  pub know : after ≡ map (with_log whole) before
+  pub made : All (IsOfGuest (length before)) whole
+  pub keys : size ≡ length (numbers.entries (map_of_log whole))
+
 -- ---- the laws
 
 -- what a guest has called adds up
@@ -100,10 +117,10 @@ pub record HaveCalled (n : ℕ) (new last : List GuestOf) (made : ℕ → List (
       → GuestHasCalled first guest (made i)
 
 -- There is one log of just these calls of the guests: each guest's, each once, in its order. It is
--- replayed, and leaves what is left.
-abbrev pub IsOneLogOf : (n : ℕ) → (made : ℕ → List (Call × Reply)) → EndedOf → Type 0
-IsOneLogOf n made ended =
-    (log : List Entry) × IsReplayed log × (map_left ended ≡ map_of_log log)
+-- replayed, and leaves this map.
+abbrev pub IsOneLogOf : (n : ℕ) → (made : ℕ → List (Call × Reply)) → Numbers → Type 0
+IsOneLogOf n made content =
+    (log : List Entry) × IsReplayed log × (content ≡ map_of_log log)
     × ((i : ℕ) → i < n → calls_of i log ≡ made i) × All (IsOfGuest n) log
 
 -- whatever calls the guests have made of a map from its beginning to its end
@@ -111,4 +128,14 @@ abbrev pub OneLogOfGuests : Type 0
 OneLogOfGuests =
     (n : ℕ) (shared : SharedOf) (new last : List GuestOf) (ended : EndedOf)
     (made : ℕ → List (Call × Reply)) → HaveCome n shared new → HaveCalled n new last made
-    → HaveEnded last ended → IsOneLogOf n made ended
+    → HaveEnded last ended → IsOneLogOf n made (map_left ended)
+
+-- The same whenever they settle, with the size of the map that the log leaves; and by that they have
+-- called nothing.
+abbrev pub OneLogSoFar : Type 0
+OneLogSoFar =
+    (n : ℕ) (shared : SharedOf) (new last settled : List GuestOf) (size : ℕ)
+    (made : ℕ → List (Call × Reply)) → HaveCome n shared new → HaveCalled n new last made
+    → GuestsHaveSettled last settled size
+    → ((content : Numbers) × (size ≡ length (numbers.entries content)) × IsOneLogOf n made content)
+    × HaveCalled n new settled made

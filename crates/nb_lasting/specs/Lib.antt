@@ -7,4 +7,5 @@ pub mod Closing
 pub mod Holding
 pub mod Gathered
 pub mod Renewal
+pub mod Settling
 pub mod inside

@@ -1,6 +1,6 @@
 -- What a renewer holds: the handles of the lanes below a number, and of all lanes at last.
 use Rattle.std.specs.FinMap as numbers
-use Rattle.std.specs.Prelude.{◌≡◌, ◌≢◌, ◌*◌, ◌<◌, ◌≤◌, ℕ, zero, suc, All, List, [], ◌∷◌, Option, Some, None, IfOk, Result, ⊤, length, slice_get}
+use Rattle.std.specs.Prelude.{◌≡◌, ◌≢◌, ◌*◌, ◌<◌, ◌≤◌, ℕ, zero, suc, All, List, [], ◌∷◌, Option, Some, None, IfOk, Result, ⊤, length, max, slice_get}
 use Rattle.atomic_table.specs.Table.{Me}
 use Rattle.nb_core.specs.Log.{Entry, Numbers, log_of, map_of_log}
 use Rattle.nb_core.specs.Meaning.{IsCrowded}
@@ -146,10 +146,11 @@ pub record IsFullAt (lane : ℕ) (handles : List HandleOf) (content : Numbers) :
 
 -- ---- a map that was made anew
 
--- The token's map has slots for twice the keys of the map that all handles knew, and the guest's log
--- goes on to theirs by no call of the guest.
-pub record HasRoomAnew (own : ℕ) (before after : LaneView) : Type 0 where
+-- The token's map has slots for twice the keys of the map that all handles knew, and for so many at
+-- least; and the guest's log goes on to theirs by no call of the guest.
+pub record HasRoomAnew (least own : ℕ) (before after : LaneView) : Type 0 where
   pub whole : List Event
   pub current : IsCurrent own before.seen whole
   pub room :
-      HasSlots (2 * length (numbers.entries (map_of_log (log_of whole)))) after.map.chain.shape
+      HasSlots (max (2 * length (numbers.entries (map_of_log (log_of whole)))) least)
+      after.map.chain.shape

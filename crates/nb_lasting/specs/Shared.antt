@@ -344,3 +344,21 @@ nobody = record {
   past = [];
   outs = [];
 }
+
+-- ---- a guest's place goes on to another token
+
+-- the token is no guest any more
+abbrev pub guest_left : LaneView → LaneView
+guest_left v = record v { guest = None }
+
+-- one that has nothing but the guest's place
+abbrev pub guest_alone : LaneView → LaneView
+guest_alone v = record {
+  guest = v.guest;
+  dealer = None;
+  seen = v.seen;
+  map = v.map;
+  filled = [];
+  past = [];
+  outs = [];
+}

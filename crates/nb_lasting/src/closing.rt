@@ -13,7 +13,7 @@ use nb_map::{Ended, Handle};
 use std::sync::Wait;
 
 /// The token becomes a lane's guest, and takes the lane's handle out of its slot.
-fn gather_from<R: Wait>(
+pub(crate) fn gather_from<R: Wait>(
     rt: &R,
     row: &Row,
     token: &mut Token,
@@ -32,6 +32,8 @@ fn gather_from<R: Wait>(
     ensures table { token.new.table_id ≡ token.old.table_id }
     ensures room { vec_capacity handles.new ≡ vec_capacity handles.old }
     ensures seated { FitsLanes row.now.table_id.slots token.new.me.0 }
+    ensures guest { (token.new.me.0.guest ≡ guest.me.0.guest)
+        × (token.new.me.0.seen ≡ guest.me.0.seen) }
     ensures gathered { (holds : HoldsBelow lane token.old.me handles.old.items)
         → HasGathered lane guest.me.0.seen holds.knew token.new.me handles.new.items }
 {

@@ -1,9 +1,9 @@
-//! Guests that share a map without an end, each in a thread of its own, through hundreds of renewals.
+//! Guests that share a map without an end, each in a thread of its own, through dozens of renewals.
 ghost use Rattle.std.specs.Prelude.{All, ◌≡◌, ◌≤◌};
 
 use crate::{GrowFault, Guest, SharedLasting, WriteFault};
 use nb_core::{Key, Num, VALUE_MAX};
-use nb_map::Ended;
+use nb_map::{Ended, SettleFault};
 use std::alloc::Global;
 use std::process::Abort;
 use std::sync::Wait;
@@ -64,8 +64,8 @@ fn rounds<R: Wait + Abort>(rt: &R, guest: &mut Guest, thread: u32)
     assert!(rt; left == Ok(None));
 }
 
-/// Four threads add to the same keys, while keys come and go and the map is made anew hundreds of
-/// times. No add is lost, and none is made twice.
+/// Four threads add to the same keys, while keys come and go and the map is made anew dozens of
+/// times: a small map isn't renewed for every few keys. No add is lost, and none is made twice.
 #[test]
 fn threads_add_through_renewals(rt: HostRuntime) {
     let (shared, mut guests) = opened(&rt, rt.alloc(), 4);
@@ -77,6 +77,8 @@ fn threads_add_through_renewals(rt: HostRuntime) {
             ensures { guest.exit.now.of ≡ guest.entry.now.of }
         { rounds(&rt, guest, (thread % 4) as u32) },
     );
+    let renewals = guests.first().map_or(0, Guest::renewals);
+    assert!(rt; renewals > 12 && renewals < 60);
     let ended = ended(&rt, shared, guests);
     assert!(rt; ended.size() == 11);
     for word in 0..SHARED {
@@ -164,6 +166,43 @@ fn size_while_threads_put(rt: HostRuntime) {
     assert!(rt; ended(&rt, shared, guests).size() == 20_000);
 }
 
+/// All guests settle between their calls: the size is exact, and the map goes on.
+#[test]
+fn settled_between_calls(rt: HostRuntime) {
+    let (mut shared, mut guests) = opened(&rt, rt.alloc(), 3);
+    assert!(rt; shared.settle(&rt, guests.as_mut_slice()) == Ok(0));
+    thread::for_each_mut(
+        &rt,
+        guests.as_mut_slice(),
+        3,
+        &|thread: usize, guest: &mut Guest|
+            ensures { guest.exit.now.of ≡ guest.entry.now.of }
+        { fills(&rt, guest, (thread % 4) as u32) },
+    );
+    assert!(rt; shared.settle(&rt, guests.as_mut_slice()) == Ok(30_000));
+    thread::for_each_mut(
+        &rt,
+        guests.as_mut_slice(),
+        3,
+        &|thread: usize, guest: &mut Guest|
+            ensures { guest.exit.now.of ≡ guest.entry.now.of }
+        {
+            let gone = guest.remove(&rt, Key::from((thread % 4) as u32));
+            assert!(rt; gone == Some(Num::from(0_u32)));
+        },
+    );
+    assert!(rt; shared.settle(&rt, guests.as_mut_slice()) == Ok(29_997));
+    assert!(rt; ended(&rt, shared, guests).size() == 29_997);
+}
+
+/// A guest is missing: nothing is counted.
+#[test]
+fn settled_without_a_guest(rt: HostRuntime) {
+    let (mut shared, mut guests) = opened(&rt, rt.alloc(), 1);
+    assert!(rt; shared.settle(&rt, &mut []) == Err(SettleFault::NotAll));
+    assert!(rt; shared.settle(&rt, guests.as_mut_slice()) == Ok(0));
+}
+
 /// Each call by its name, beside two guests that make none: they hold up nobody, also where the map
 /// is made anew.
 #[test]
@@ -225,9 +264,12 @@ fn guests_refused_memory(rt: HostRuntime) {
         Ok(opened) => Ok(opened),
         Err(_) => SharedLasting::open(rt.alloc(), 2, 0),
     };
-    let Ok((shared, mut guests)) = opened else {
+    let Ok((mut shared, mut guests)) = opened else {
         panic!(rt; "memory")
     };
+    let size = shared.settle(&rt, guests.as_mut_slice());
+    let again = shared.settle(&rt, guests.as_mut_slice());
+    assert!(rt; size == Ok(0) || (size == Err(SettleFault::OutOfMemory) && again == Ok(0)));
     thread::for_each_mut(
         &rt,
         guests.as_mut_slice(),

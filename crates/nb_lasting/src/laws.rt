@@ -1,7 +1,7 @@
 //! What a crate above may rest on while calls are made one after another. Each function carries a law
 //! as its contract, so that the gate guards it; nobody calls it.
 ghost use Rattle.nb_lasting.specs.Epochs.{OneLogForAll};
-ghost use Rattle.nb_lasting.specs.Guests.{CallsAddUp, OneLogOfGuests};
+ghost use Rattle.nb_lasting.specs.Guests.{CallsAddUp, OneLogOfGuests, OneLogSoFar};
 ghost use Rattle.nb_lasting.specs.Laws.{OneLog};
 
 /// There is one log of all calls on a map without an end, over all renewals: each call stands in it
@@ -25,4 +25,10 @@ pub fn one_log_of_guests()
 /// What a guest has called adds up, call by call.
 pub fn guest_calls_add_up()
     ensures { CallsAddUp }
+{}
+
+/// The same whenever all guests settle, while the map goes on: the size is that of the map which this
+/// log leaves, and the guests have called nothing by settling.
+pub fn one_log_so_far()
+    ensures { OneLogSoFar }
 {}

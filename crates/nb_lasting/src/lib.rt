@@ -16,6 +16,7 @@ pub mod laws;
 mod opening;
 mod present;
 mod renewing;
+mod settling;
 mod shapes;
 mod shared;
 mod shared_lasting;

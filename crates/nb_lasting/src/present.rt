@@ -6,10 +6,10 @@ ghost use Rattle.nb_map.specs.Ending.{map_left};
 ghost use Rattle.nb_map.specs.Entries.{AreEntriesOf};
 ghost use Rattle.nb_lasting.specs.Lasting.{Finds, IsGreatest, IsMadeOn, IsNewKey, IsRefusedFor};
 ghost use Rattle.nb_lasting.specs.declared.faults.GrowFault.TheVariants as fault;
-ghost use Rattle.nb_lasting.specs.inside.Present.{IsAlone, IsFresh, IsRefusedHere, content, keys_in};
+ghost use Rattle.nb_lasting.specs.inside.Present.{HasSlots, IsAlone, IsFresh, IsRefusedHere, content, keys_in};
 
 use crate::faults::{GrowFault, WriteFault};
-use crate::shapes::{LEAST, shape_for};
+use crate::shapes::{LEAST, LEAST_ANEW, shape_for};
 use nb_core::{Change, Key, Num, OutOfMemory, Reply, Want};
 use nb_map::{Ended, Handle, PutFault, RenewFault};
 use std::alloc::Global;
@@ -21,6 +21,8 @@ pub(crate) struct Present {
     pub(crate) handle: Handle,
     /// How many more keys may come before it is time for a new map.
     pub(crate) left: usize,
+    /// For how many keys it is made anew at least.
+    pub(crate) least: usize,
     pub(crate) alloc: Global,
 }
 
@@ -35,6 +37,7 @@ impl Present {
         Ok(Present {
             handle,
             left: keys.max(LEAST),
+            least: keys.max(LEAST_ANEW),
             alloc,
         })
     }
@@ -87,18 +90,20 @@ impl Present {
         }
     }
 
-    /// A new map goes on with what this one has, with room for as many keys again.
+    /// A new map goes on with what this one has, with room for as many keys again, and for the fewest.
     pub(crate) fn renew(&mut self) -> Result<(), GrowFault>
         requires alone { IsAlone self.old.handle }
         ensures alone { IsAlone self.new.handle }
         ensures kept { content self.new.handle ≡ content self.old.handle }
         ensures fresh { OnOk result (IsFresh self.new.handle) }
+        ensures slots { OnOk result (HasSlots self.old.least self.new.handle.map.chain.shape) }
         ensures full { result ≡ Err fault.Full → IsGreatest (content self.old.handle) }
     {
+        let least = self.least;
         let size = self.size()? as usize;
-        let keys = size.saturating_mul(2);
+        let keys = size.saturating_mul(2).max(least);
         self.renew_for(keys)?;
-        self.left = keys.max(LEAST) - size;
+        self.left = keys - size;
         Ok(())
     }
 
@@ -109,6 +114,7 @@ impl Present {
         ensures alone { IsAlone self.new.handle }
         ensures kept { content self.new.handle ≡ content self.old.handle }
         ensures fresh { OnOk result (IsFresh self.new.handle) }
+        ensures slots { OnOk result (HasSlots keys self.new.handle.map.chain.shape) }
         ensures full { result ≡ Err fault.Full → IsGreatest (content self.old.handle) }
     {
         match self.handle.renew(self.alloc, shape_for(keys, 1)) {

@@ -110,7 +110,7 @@ pub(crate) fn gather_all<R: Wait>(
 }
 
 /// Puts the handles of all lanes back.
-fn deal_all(row: &Row, token: &mut Token, handles: Vec<Handle>)
+pub(crate) fn deal_all(row: &Row, token: &mut Token, handles: Vec<Handle>)
     requires table { token.old.table_id ≡ row.now.table_id }
     requires lanes { length handles.items ≤ row.now.key.seats }
     requires words { row.now.table_id.words ≡ 8 * row.now.key.seats }
@@ -221,8 +221,8 @@ fn renew_all<R: Wait>(
     renewed
 }
 
-/// Makes the map anew with all handles, with room for twice the keys that it has, and puts them back.
-/// Where it has as many keys as the greatest table has slots, the guest has seen all calls instead.
+/// Makes the map anew with all handles, with room for twice the keys that it has, and for the fewest
+/// that the hall says, and puts them back. Where it has as many keys as the greatest table has slots, the guest has seen all calls instead.
 pub(crate) fn renew_counted<R: Wait>(
     rt: &R,
     hall: &Hall,
@@ -239,7 +239,7 @@ pub(crate) fn renew_counted<R: Wait>(
     ensures table { token.new.table_id ≡ token.old.table_id }
     ensures idle { IsIdleGuest own token.new.me }
     ensures called { HasCalledIn own token.old.me.0 token.new.me.0 [] }
-    ensures anew { OnOk result (HasRoomAnew own token.old.me.0 token.new.me.0) }
+    ensures anew { OnOk result (HasRoomAnew hall.now.least own token.old.me.0 token.new.me.0) }
     ensures kept { result ≡ Err fault.OutOfMemory → token.new.me.0.seen ≡ token.old.me.0.seen }
     ensures full { result ≡ Err fault.Full
         → IsFullAt own handles.items (map_of_log (log_of token.new.me.0.seen)) }
@@ -254,7 +254,8 @@ pub(crate) fn renew_counted<R: Wait>(
         all_home(row, token, handles, own);
         return Err(GrowFault::Full);
     }
-    let shape = shape_for((size as usize).saturating_mul(2), hall.table.slot_count());
+    let keys = (size as usize).saturating_mul(2).max(hall.least);
+    let shape = shape_for(keys, hall.table.slot_count());
     match renew_all(rt, hall, token, handles, shape) {
         Ok(()) => Ok(()),
         Err(RenewFault::Full) => unreachable!(),

@@ -8,6 +8,9 @@ use nb_core::{MAX_EXPONENT, MOST_KEYS, Shape};
 /// The fewest keys that a map is made for.
 pub(crate) const LEAST: usize = 20;
 
+/// The fewest keys that a map is made anew for: its last table has 2^10 slots.
+pub(crate) const LEAST_ANEW: usize = 682;
+
 /// How many slots the greatest table has.
 pub(crate) const GREATEST: u64 = 1 << MAX_EXPONENT;
 

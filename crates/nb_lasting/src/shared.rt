@@ -11,11 +11,12 @@
 //! that by no call of the guest. A renewal that is refused makes reads by the seats: then an epoch of the same map begins, which they have
 //! filled, and the one log lacks them.
 //! A lane is out exactly where one view has it, once. Each lane has one guest at most. At the end one token takes the place of each guest
-//! in turn (`become_guest`), and its lane: so it learns that what each has seen goes on to the one log.
+//! in turn (`become_guest`), and its lane: so it learns that what each has seen goes on to the one log. Where all guests settle it does
+//! the same, and hands each place on (`hand_on`) to the guest's own token.
 //!
 //! What is left: no clause bounds a call's steps where no renewal comes between.
 ghost use Rattle.std.specs.Prelude.{[], Some, ℕ, ◌≡◌, ◌≢◌, ◌*◌, ◌<◌, ◌≤◌, true, false};
-ghost use Rattle.nb_lasting.specs.Shared.{HasBegunAnew, HasDealt, HasGiven, HasTaken, FitsLanes, as_guest, dealer_left, new_guest};
+ghost use Rattle.nb_lasting.specs.Shared.{HasBegunAnew, HasDealt, HasGiven, HasTaken, FitsLanes, as_guest, dealer_left, guest_alone, guest_left, new_guest};
 ghost use Rattle.nb_lasting.specs.Holding.{CanDeal, CanGive, CanRenew};
 
 use atomic_table::{Join, Play, Seat, Shared, Split, TableRule};
@@ -116,6 +117,17 @@ impl Split<LaneView> for Fork {
     ghost left = { dealer_left };
 
     ghost right = { new_guest };
+}
+
+/// A token hands its guest's place on.
+pub(crate) struct HandOn;
+
+impl Split<LaneView> for HandOn {
+    ghost use Rattle.nb_lasting.specs.Shared.{guest_alone, guest_left};
+
+    ghost left = { guest_left };
+
+    ghost right = { guest_alone };
 }
 
 /// A token takes the place of another, which makes no call.
@@ -241,6 +253,18 @@ pub(crate) fn another(row: &Row, token: &mut Token) -> Token
     ensures guest { result.me ≡ (new_guest token.old.me.0, []) }
 {
     row.split_seat::<Fork>(token)
+}
+
+/// A token that is the guest that this one was, which is no guest any more.
+pub(crate) fn hand_on(row: &Row, token: &mut Token) -> Token
+    requires table { token.old.table_id ≡ row.now.table_id }
+    requires words { 1 ≤ row.now.table_id.words }
+    ensures table { (token.new.table_id ≡ token.old.table_id)
+        × (result.table_id ≡ row.now.table_id) }
+    ensures left { token.new.me ≡ (guest_left token.old.me.0, token.old.me.1) }
+    ensures guest { result.me ≡ (guest_alone token.old.me.0, []) }
+{
+    row.split_seat::<HandOn>(token)
 }
 
 /// A token becomes the guest that another was, which makes no call.

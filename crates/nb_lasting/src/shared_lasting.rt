@@ -1,9 +1,10 @@
 //! A map without an end that guests share, each in a thread of its own.
 ghost use Rattle.std.specs.Arc.{arc_value};
-ghost use Rattle.std.specs.Prelude.{All, IfErr, IfOk, [], is_ok, true, ◌≡◌, ◌≤◌, ◌↔◌};
+ghost use Rattle.std.specs.Prelude.{All, Err, IfErr, IfOk, OnErr, [], is_ok, true, ◌≡◌, ◌≤◌, ◌↔◌};
 ghost use Rattle.nb_core.specs.declared.shapes.TheConstants.{MAX_SEATS};
+ghost use Rattle.nb_map.specs.declared.faults.SettleFault.TheVariants as fault;
 ghost use Rattle.nb_lasting.specs.Closing.{AreNew};
-ghost use Rattle.nb_lasting.specs.Guests.{AreAllGuests, HaveCome, HaveEnded};
+ghost use Rattle.nb_lasting.specs.Guests.{AreAllGuests, GuestsHaveSettled, HaveCome, HaveEnded};
 ghost use Rattle.nb_lasting.specs.Renewal.{IsIdleToken};
 ghost use Rattle.nb_lasting.specs.Shared.{first_lane_view};
 
@@ -11,10 +12,11 @@ use crate::closing::close_row;
 use crate::guest::{Guest, LOOK_AFTER};
 use crate::hall::Hall;
 use crate::opening::open_row;
-use crate::shapes::shape_for;
+use crate::settling::settle_guests;
+use crate::shapes::{LEAST_ANEW, shape_for};
 use crate::shared::{Token, another};
 use nb_core::OutOfMemory;
-use nb_map::{Ended, Handle};
+use nb_map::{Ended, Handle, SettleFault};
 use std::alloc::Global;
 use std::marker::Model;
 use std::sync::atomic::AtomicU64;
@@ -73,7 +75,7 @@ fn invited(
 
 impl SharedLasting {
     /// An empty map, and so many guests. It has room for about so many keys before it is made anew
-    /// for the first time.
+    /// for the first time, and at least for these whenever it was.
     pub fn open(
         alloc: Global,
         guests: usize,
@@ -87,11 +89,33 @@ impl SharedLasting {
         let hall = Hall {
             table,
             renewals: AtomicU64::new(0),
+            least: keys.max(LEAST_ANEW),
             alloc,
         };
         let hall = Arc::new(alloc, hall)?;
         let made = invited(&hall, &mut token, guests)?;
         Ok((SharedLasting { hall, token, room }, made))
+    }
+
+    /// With all guests, in their order: how many keys the map has, exactly. Afterwards each guest knows
+    /// the one log of all calls, as if the map had been closed, and the map goes on. It takes memory
+    /// for some vectors of as many handles as there are guests. Where that is refused, or a guest is
+    /// missing, all are as they were. Whether they are this map's is asked for, as `close` does.
+    pub fn settle<R: Wait>(&mut self, rt: &R, guests: &mut [Guest]) -> Result<u64, SettleFault>
+        requires of { All (λ guest. guest.of ≡ self.old.id) guests.old }
+        ensures all { (result ≡ Err fault.NotAll) ↔ (AreAllGuests self.old guests.old → ⊥) }
+        ensures settled { IfOk result (GuestsHaveSettled guests.old guests.new) }
+        ensures of { All (λ guest. guest.of ≡ self.old.id) guests.new }
+        ensures same { self.new ≡ self.old }
+        ensures kept { OnErr result (guests.new ≡ guests.old) }
+    {
+        if !self.are_all(guests) {
+            return Err(SettleFault::NotAll);
+        }
+        match settle_guests(rt, &self.hall, &mut self.token, guests) {
+            Ok(size) => Ok(size),
+            Err(_) => Err(SettleFault::OutOfMemory),
+        }
     }
 
     /// With all guests, in their order: what is left of the map. It takes no memory. Any others come

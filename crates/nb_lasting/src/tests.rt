@@ -1,4 +1,4 @@
-//! The map without an end beside a plain map, through hundreds of renewals, and where memory is
+//! The map without an end beside a plain map, through dozens of renewals, and where memory is
 //! refused.
 use crate::{GrowFault, Lasting, WriteFault};
 use nb_core::{Change, Key, Num, PlainFault, PlainMap, Reply, VALUE_MAX, Want};
@@ -114,9 +114,9 @@ fn replies_as_a_plain_map(rt: HostRuntime) {
     same_end(&rt, rt.alloc(), lasting, &plain);
 }
 
-/// Ten keys at a time, and 40,000 in all, come and go in tables of 32 slots or a few more.
+/// Ten keys at a time, and 40,000 in all, come and go in tables of 2^10 slots.
 #[test]
-fn renewed_hundreds_of_times(rt: HostRuntime) {
+fn renewed_dozens_of_times(rt: HostRuntime) {
     let mut lasting = opened(&rt, rt.alloc());
     let mut plain = PlainMap::new(rt.alloc());
     for word in 10..40_010_u32 {

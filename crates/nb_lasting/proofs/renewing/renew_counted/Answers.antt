@@ -1,4 +1,4 @@
-use Rattle.std.proofs.Common.{◌≡◌, ◌∙◌, ◌*◌, ◌<◌, ◌≤◌, ◌^◌, Err, ap, arith, refl, subst, sym}
+use Rattle.std.proofs.Common.{◌≡◌, ◌∙◌, ◌*◌, ◌<◌, ◌≤◌, ◌^◌, Err, ap, arith, max, refl, subst, sym}
 use Rattle.nb_core.specs.Log.{log_of}
 use Rattle.nb_lasting.specs.Renewal.{HoldsStill}
 use Rattle.nb_lasting.specs.inside.Present.{HasSlots}
@@ -106,10 +106,10 @@ unreachable-requires g c =
     let result = c.counted-handles.result.1 in
     let is = c.counted-handles.ensures in
     let less : c.in-Ok.size < 2 ^ 28 = omega (arith, c.if-size-ge-GREATEST.false) in
-    let fewer : c.in-Ok.size ≤ c.saturating_mul.result =
-    omega (arith, c.saturating_mul.ensures, c.if-size-ge-GREATEST.false) in
+    let fewer : c.in-Ok.size ≤ c.max-keys.result =
+    omega (arith, c.saturating_mul.ensures, c.max-keys.ensures, c.if-size-ge-GREATEST.false) in
     room-left n me before after some few holds result is c.in-Ok.size c.in-Ok.is
-    c.shape_for-shape.result c.saturating_mul.result less fewer
+    c.shape_for-shape.result c.max-keys.result less fewer
     c.shape_for-shape.ensures.slots
     (c.renew_all.ensures.full (c.in-Err-Full.is ∙ ap Err c.in-Err-Full.field-0-is))
 
@@ -119,12 +119,13 @@ returns-in-Ok-renew_all-clause-anew g c =
     let me = c.args.token.now.me in
     let before = c.args.handles.items in
     let after = c.counted-handles.result.0.items in
-    let twice : c.saturating_mul.result ≡ 2 * c.in-Ok.size =
-    omega (arith, c.saturating_mul.ensures, c.if-size-ge-GREATEST.false) in
+    let twice : c.max-keys.result ≡ max (2 * c.in-Ok.size) c.args.hall.now.least =
+    omega (arith, c.saturating_mul.ensures, c.max-keys.ensures, c.if-size-ge-GREATEST.false) in
     room-anew n me before after c.args.hall.now.some c.args.hall.now.few c.requires.holds
     c.counted-handles.result.1 c.counted-handles.ensures c.in-Ok.size c.in-Ok.is c.args.own
-    c.requires.guest c.requires.own c.saturating_mul.result twice c.renew_all.new.token.me.0
-    (subst (HasSlots c.saturating_mul.result) (sym c.in-Ok-renew_all.ensures.anew)
+    c.requires.guest c.requires.own c.max-keys.result c.args.hall.now.least twice
+    c.renew_all.new.token.me.0
+    (subst (HasSlots c.max-keys.result) (sym c.in-Ok-renew_all.ensures.anew)
     c.shape_for-shape.ensures.slots)
 
 pub returns-in-Ok-renew_all-clause-called : goal.returns-in-Ok-renew_all-clause-called

@@ -1,3 +1,5 @@
+use Rattle.std.proofs.Common.{subst, sym}
+use Rattle.nb_lasting.specs.inside.Present.{HasSlots}
 use Rattle.nb_lasting.proofs.Alone.{has-room, kept-alone, renewed-alone, too-many}
 use Rattle.nb_lasting.proofs.present.Present.renew_for.Goals as goal
 
@@ -8,7 +10,14 @@ returns-in-Ok c =
     (has-room c.shape_for.result c.args.keys c.args.self.now.handle c.requires.room
     c.shape_for.ensures.slots)
     c.in-Ok.ensures.renewed c.known.ensures.own in
-    record { alone = done.0; kept = done.1; fresh = done.2; full = λ is. absurd cc }
+    record {
+      alone = done.0;
+      kept = done.1;
+      fresh = done.2;
+      slots = subst (HasSlots c.args.keys) (sym c.in-Ok.ensures.renewed.begun.made.shape)
+          c.shape_for.ensures.slots;
+      full = λ is. absurd cc;
+    }
 
 pub returns-in-Err-Full : goal.returns-in-Err-Full
 returns-in-Err-Full c =
@@ -18,6 +27,7 @@ returns-in-Err-Full c =
       alone = kept.0;
       kept = kept.1;
       fresh = tt;
+      slots = tt;
       full = λ is. too-many c.shape_for.result c.args.self.now.handle c.requires.alone
           (has-room c.shape_for.result c.args.keys c.args.self.now.handle c.requires.room
           c.shape_for.ensures.slots)
@@ -28,4 +38,4 @@ pub returns-in-Err : goal.returns-in-Err
 returns-in-Err c =
     let kept = kept-alone c.args.self.now.handle c.renew.new.self c.requires.alone
     c.in-Err.ensures.kept in
-    record { alone = kept.0; kept = kept.1; fresh = tt; full = λ is. absurd cc }
+    record { alone = kept.0; kept = kept.1; fresh = tt; slots = tt; full = λ is. absurd cc }
