@@ -4,11 +4,10 @@ use Rattle.std.proofs.KnownBytes.{Appends-nil, Appends-trans}
 use Rattle.std.proofs.lemmas.List.{drop_at}
 use Rattle.std.proofs.lemmas.List.Concat.{flat_map-append}
 use Rattle.std.specs.Io.KnownBytes.{Appends}
-use Rattle.std.specs.Prelude.{count_by, min}
-use Rattle.nb_texts.proofs.Theorems.{IsReading, lines-few, lines-within, on-known, reading-begun, reading-ended, reading-first, reading-more, reading-next, with-append, with-grows}
+use Rattle.nb_texts.proofs.Theorems.{IsReading, on-known, over-with, reading-begun, reading-ended, reading-first, reading-more, reading-next, with-append, with-grows}
 use Rattle.nb_texts.specs.Lines.{distinct, lines_in, text_of_lines, with_new_lines}
-use Rattle.nb_texts.specs.Memory.{TellsWhetherFits}
-use Rattle.nb_texts.specs.Sources.{HasCut}
+use Rattle.nb_texts.specs.Memory.{TellsWhetherFits, ahead_under}
+use Rattle.nb_texts.specs.Sources.{HasCut, IsBlock}
 use Rattle.nb_texts.specs.declared.catalog.Catalog.{Catalog}
 use Rattle.nb_texts.specs.declared.memory.Load.{Load}
 use Rattle.nb_texts.specs.declared.memory.MemoryLimit.{MemoryLimit}
@@ -107,35 +106,27 @@ underway-first known now before after taken texts rest under =
 
 -- ---- a limit
 
--- there are no more lines in a block than newlines, and one
-pub lines-most :
-    (block : List ℕ) (newlines : ℕ) → newlines ≡ count_by (λ byte. byte == 10) block
-    → length block < 2 ^ 64 → length (lines_in block) ≤ min (newlines + 1) (2 ^ 64 - 1)
-lines-most block newlines is fits = omega (arith, lines-few block, lines-within block, is, fits)
-
 -- a block might not fit
 pub limited :
     (limit : Option MemoryLimit) (known now next before after : Option (List ℕ)) (taken : ℕ)
     (texts : List (List ℕ)) (rest rest' block : List ℕ) (some : Bool) (load : Load) (catalog : Catalog)
     → IsUnderway known now before after taken texts rest → HasCut some now next rest block rest'
-    → load.lines ≤ count_by (λ byte. byte == 10) block + 1 → load.bytes ≡ length block
-    → TellsWhetherFits limit catalog load false
+    → IsBlock (ahead_under limit) block → load.lines ≡ length (lines_in block)
+    → load.bytes ≡ length block → TellsWhetherFits limit catalog load false
     → IfSome limit (λ limit. IfSome known (λ input. LinesMayNotFit limit input taken catalog))
-limited None known now next before after taken texts rest rest' block some load catalog under cut few bytes
-    fits =
+limited None known now next before after taken texts rest rest' block some load catalog under cut one
+    many bytes fits =
     tt
 limited (Some limit) known now next before after taken texts rest rest' block some load catalog under cut
-    few bytes fits =
+    one many bytes fits =
     on-known known
     (λ input. (behind : List ℕ) × (drop taken (lines_in input) ≡ lines_in block ++ lines_in behind))
     (λ input. LinesMayNotFit limit input taken catalog)
     (λ input next. record {
       block = block;
+      is_block = one;
       rest = next.0;
       next = next.1;
-      load = load;
-      few = few;
-      bytes = bytes;
-      over = fits;
+      over = over-with limit catalog load block many bytes fits;
     })
     (reading-next known now next under.lines rest rest' block some taken under.many under.reading cut)

@@ -54,19 +54,17 @@ where
             taken.is_whole = true;
             return Ok(Printed { catalog, taken });
         }
-        let newlines = source.newlines();
-        let load = Load {
-            lines: newlines.saturating_add(1),
-            bytes: source.block().len(),
-        };
+        let lines = source.lines();
+        let bytes = source.block().len();
+        let load = Load { lines, bytes };
         if !catalog.make_room_within(alloc, plan.limit, load)? {
             return Ok(Printed { catalog, taken });
         }
         let known = catalog.len();
-        let places = catalog.enter(rt, alloc, source.block(), plan.workers)?;
+        catalog.enter(rt, alloc, source.block(), plan.workers)?;
         write_from(alloc, &catalog, known, writer)?;
-        taken = taken.with(places.len())?;
-        done = source.done_with(done, newlines);
+        taken = taken.with(lines)?;
+        done = source.done_with(done, lines);
         plan.progress.tell_done(rt, done);
     }
     Err(ProgramFault::Read)

@@ -195,12 +195,20 @@ impl From<ShapeFault> for ProgramFault {
 }
 
 impl From<OutOfMemory> for ProgramFault {
+    ghost use Rattle.nb_lines.specs.declared.faults.ProgramFault.TheVariants as program;
+
+    ghost from_gives = { λ _ told. told ≡ program.OutOfMemory };
+
     fn from(_fault: OutOfMemory) -> ProgramFault {
         ProgramFault::OutOfMemory
     }
 }
 
 impl<T: Drop> From<AllocFailed<T>> for ProgramFault {
+    ghost use Rattle.nb_lines.specs.declared.faults.ProgramFault.TheVariants as program;
+
+    ghost from_gives = { λ _ told. told ≡ program.OutOfMemory };
+
     fn from(_refused: AllocFailed<T>) -> ProgramFault {
         ProgramFault::OutOfMemory
     }

@@ -1,11 +1,10 @@
 -- The lines of an input are counted block after block.
-use Rattle.std.proofs.Common.{◌≡◌, ◌∙◌, ◌==◌, ◌+◌, ◌-◌, ◌^◌, ◌≤◌, ◌<◌, ℕ, Bool, false, List, [], ◌++◌, None, Option, Some, IfSome, ap, arith, drop, length, length-append, map, refl, subst, sym, take}
-use Rattle.std.specs.Prelude.{count_by, min}
+use Rattle.std.proofs.Common.{◌≡◌, ◌∙◌, ◌+◌, ◌≤◌, ℕ, Bool, false, List, [], ◌++◌, None, Option, Some, IfSome, ap, arith, drop, length, length-append, map, refl, subst, sym, take}
 use Rattle.std.proofs.lemmas.List.{length-map, map-append}
-use Rattle.nb_texts.proofs.Theorems.{IsReading, lines-few, lines-within, on-known, reading-begun, reading-ended, reading-first, reading-more, reading-next}
+use Rattle.nb_texts.proofs.Theorems.{IsReading, on-known, over-with, reading-begun, reading-ended, reading-first, reading-more, reading-next}
 use Rattle.nb_texts.specs.Lines.{lines_in}
-use Rattle.nb_texts.specs.Memory.{TellsWhetherFits}
-use Rattle.nb_texts.specs.Sources.{HasCut}
+use Rattle.nb_texts.specs.Memory.{TellsWhetherFits, ahead_under}
+use Rattle.nb_texts.specs.Sources.{HasCut, IsBlock}
 use Rattle.nb_texts.specs.Tallies.{IsTally, times}
 use Rattle.nb_texts.specs.declared.catalog.Catalog.{Catalog}
 use Rattle.nb_texts.specs.declared.memory.Load.{Load}
@@ -26,27 +25,10 @@ counted-append :
 counted-append None lines more = refl
 counted-append (Some column) lines more = map-append (field column) lines more
 
-counted-many : (column : Option Column) (lines : List (List ℕ))
+pub counted-many : (column : Option Column) (lines : List (List ℕ))
     → length (counted_of column lines) ≡ length lines
 counted-many None lines = refl
 counted-many (Some column) lines = length-map lines (field column)
-
--- there are no more of them than newlines in a block, and one
-pub counted-few :
-    (column : Option Column) (block counted : List ℕ) (newlines : ℕ)
-    → lines_in counted ≡ counted_of column (lines_in block)
-    → newlines ≡ count_by (λ byte. byte == 10) block → length block < 2 ^ 64
-    → length (lines_in counted) ≤ min (newlines + 1) (2 ^ 64 - 1)
-counted-few column block counted newlines are is fits =
-    omega (
-      arith,
-      ap length are,
-      counted-many column (lines_in block),
-      lines-few block,
-      lines-within block,
-      is,
-      fits,
-    )
 
 -- ---- block after block
 
@@ -140,27 +122,25 @@ pub limited :
     (column : Option Column) (limit : Option MemoryLimit) (known now next : Option (List ℕ))
     (taken : ℕ) (texts : List (List ℕ)) (counts rest rest' block counted : List ℕ) (some : Bool)
     (load : Load) (catalog : Catalog) → IsUnderway column known now taken texts counts rest
-    → HasCut some now next rest block rest' → lines_in counted ≡ counted_of column (lines_in block)
-    → load.lines ≤ count_by (λ byte. byte == 10) block + 1 → load.bytes ≡ length counted
-    → TellsWhetherFits limit catalog load false
+    → HasCut some now next rest block rest' → IsBlock (ahead_under limit) block
+    → lines_in counted ≡ counted_of column (lines_in block) → load.lines ≡ length (lines_in counted)
+    → load.bytes ≡ length counted → TellsWhetherFits limit catalog load false
     → IfSome limit (λ limit. IfSome known (λ input. MayNotFit column limit input taken catalog))
 limited column None known now next taken texts counts rest rest' block counted some load catalog under
-    cut are few bytes fits =
+    cut one are many bytes fits =
     tt
 limited column (Some limit) known now next taken texts counts rest rest' block counted some load catalog
-    under cut are few bytes fits =
+    under cut one are many bytes fits =
     on-known known
     (λ input. (behind : List ℕ) × (drop taken (lines_in input) ≡ lines_in block ++ lines_in behind))
     (λ input. MayNotFit column limit input taken catalog)
     (λ input next. record {
       block = block;
+      is_block = one;
       rest = next.0;
       next = next.1;
       counted = counted;
       are = are;
-      load = load;
-      few = few;
-      bytes = bytes;
-      over = fits;
+      over = over-with limit catalog load counted many bytes fits;
     })
     (reading-next known now next under.lines rest rest' block some taken under.many under.reading cut)

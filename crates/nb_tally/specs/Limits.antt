@@ -1,10 +1,10 @@
 -- What is counted of an input under a limit of memory.
-use Rattle.std.specs.Prelude.{◌≡◌, ◌==◌, ◌+◌, ◌<◌, ◌≤◌, ◌++◌, ℕ, List, Option, count_by, drop, length, take}
+use Rattle.std.specs.Prelude.{◌≡◌, ◌<◌, ◌≤◌, ◌++◌, ℕ, List, Option, Some, drop, length, take}
 use Rattle.nb_texts.specs.Lines.{lines_in}
-use Rattle.nb_texts.specs.Memory.{most_bytes_with}
+use Rattle.nb_texts.specs.Memory.{ahead_under, load_of, most_bytes_with}
+use Rattle.nb_texts.specs.Sources.{IsBlock}
 use Rattle.nb_texts.specs.Tallies.{IsTally}
 use Rattle.nb_texts.specs.declared.catalog.Catalog.{Catalog}
-use Rattle.nb_texts.specs.declared.memory.Load.{Load}
 use Rattle.nb_texts.specs.declared.memory.MemoryLimit.{MemoryLimit}
 use Rattle.nb_tally.specs.Fields.{counted_of}
 use Rattle.nb_tally.specs.declared.fields.Column.{Column}
@@ -20,11 +20,9 @@ pub record IsTallyOfFirst (column : Option Column) (input : List ℕ) (lines : �
 pub record MayNotFit (column : Option Column) (limit : MemoryLimit) (input : List ℕ) (lines : ℕ)
     (catalog : Catalog) : Type 0 where
   pub block : List ℕ
+  pub is_block : IsBlock (ahead_under (Some limit)) block
   pub rest : List ℕ
   pub next : drop lines (lines_in input) ≡ lines_in block ++ lines_in rest
   pub counted : List ℕ
   pub are : lines_in counted ≡ counted_of column (lines_in block)
-  pub load : Load
-  pub few : load.lines ≤ count_by (λ byte. byte == 10) block + 1
-  pub bytes : load.bytes ≡ length counted
-  pub over : limit.bytes < most_bytes_with limit.each catalog load
+  pub over : limit.bytes < most_bytes_with limit.each catalog (load_of counted)

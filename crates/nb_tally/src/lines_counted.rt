@@ -61,18 +61,16 @@ where
             taken.is_whole = true;
             return Ok(Counted { tally, taken });
         }
-        let newlines = source.newlines();
+        let lines = source.lines();
         let block = counted_in(column, source.block(), &mut fields)?;
-        let load = Load {
-            lines: newlines.saturating_add(1),
-            bytes: block.len(),
-        };
+        let bytes = block.len();
+        let load = Load { lines, bytes };
         if !tally.make_room_within(alloc, plan.limit, load)? {
             return Ok(Counted { tally, taken });
         }
-        let lines = tally.enter(rt, alloc, block, plan.workers)?;
+        tally.enter(rt, alloc, block, plan.workers)?;
         taken = taken.with(lines)?;
-        done = source.done_with(done, newlines);
+        done = source.done_with(done, lines);
         plan.progress.tell_done(rt, done);
     }
     Err(ProgramFault::Read)

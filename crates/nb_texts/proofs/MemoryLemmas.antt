@@ -1,10 +1,10 @@
 -- How many bytes lines take.
-use Rattle.std.proofs.Common.{◌≡◌, ◌∙◌, ◌+◌, ◌*◌, ◌≤◌, ◌==◌, ℕ, suc, Bool, true, false, cond, List, [], ◌∷◌, ◌++◌, None, Option, Some, ap, arith, inl, inr, length, length-append, mul-add, mul-le-mul_left, mul-one, mul-suc, refl}
-use Rattle.std.specs.Prelude.{count_by, sum_by}
+use Rattle.std.proofs.Common.{◌≡◌, ◌∙◌, ◌+◌, ◌*◌, ◌<◌, ◌≤◌, ◌==◌, ℕ, suc, Bool, true, false, cond, List, [], ◌∷◌, ◌++◌, None, Option, Some, ap, arith, inl, inr, length, length-append, mul-add, mul-le-mul_left, mul-one, mul-suc, refl, sym}
+use Rattle.std.specs.Prelude.{sum_by}
 use Rattle.std.proofs.lemmas.Bool.{cases_Bool}
 use Rattle.std.proofs.lemmas.List.Sums.{sum_by-append, sum_by-cons}
 use Rattle.nb_texts.specs.Lines.{is_among, lines_in, onto, with_new_lines}
-use Rattle.nb_texts.specs.Memory.{KeepsTo, TellsWhetherFits, bytes_of_texts}
+use Rattle.nb_texts.specs.Memory.{KeepsTo, TellsWhetherFits, bytes_of_texts, load_of, most_bytes_with}
 use Rattle.nb_texts.specs.declared.catalog.Catalog.{Catalog}
 use Rattle.nb_texts.specs.declared.memory.Load.{Load}
 use Rattle.nb_texts.specs.declared.memory.MemoryLimit.{MemoryLimit}
@@ -28,39 +28,6 @@ lines-bytes (byte ∷ text) = of (byte == 10) (lines-bytes text)
         ≤ suc (length text)
     of true less = omega (arith, less, sum_by-cons length [] (lines_in text))
     of false less = omega (arith, less, onto-bytes byte (lines_in text))
-
-onto-few : (byte n : ℕ) (lines : List (List ℕ)) → length lines ≤ n → 1 ≤ n
-    → length (onto byte lines) ≤ n
-onto-few byte n [] few some = omega (arith, some)
-onto-few byte n (line ∷ lines) few some = omega (arith, few)
-
--- there is one more of them than there are newlines, or as many
-pub lines-few : (text : List ℕ) → length (lines_in text) ≤ count_by (λ byte. byte == 10) text + 1
-lines-few [] = omega arith
-lines-few (byte ∷ text) =
-    omega (arith, of (byte == 10) (lines-few text), sum_by-cons (λ byte. cond (byte == 10) 1 0) byte text)
-  where
-    of :
-        (b : Bool) → length (lines_in text) ≤ count_by (λ byte. byte == 10) text + 1
-        → length (cond b ([] ∷ lines_in text) (onto byte (lines_in text)))
-        ≤ cond {A = ℕ} b 1 0 + count_by (λ byte. byte == 10) text + 1
-    of true few = omega (arith, few)
-    of false few =
-        let less = onto-few byte (count_by (λ byte. byte == 10) text + 1) (lines_in text) few (omega arith) in
-        omega (arith, less)
-
--- and no more than bytes
-pub lines-within : (text : List ℕ) → length (lines_in text) ≤ length text
-lines-within [] = omega arith
-lines-within (byte ∷ text) = of (byte == 10) (lines-within text)
-  where
-    of :
-        (b : Bool) → length (lines_in text) ≤ length text
-        → length (cond b ([] ∷ lines_in text) (onto byte (lines_in text))) ≤ suc (length text)
-    of true few = omega (arith, few)
-    of false few =
-        let less = onto-few byte (suc (length text)) (lines_in text) (omega (arith, few)) (omega arith) in
-        omega (arith, less)
 
 -- ---- lines are entered
 
@@ -122,3 +89,16 @@ pub unlimited : (limit : Option MemoryLimit) (catalog : Catalog) (load : Load)
     → TellsWhetherFits limit catalog load false → limit ≡ None → ⊥
 unlimited None catalog load fits none = cc
 unlimited (Some limit) catalog load fits none = cc
+
+-- a block might not fit whose lines are so many
+pub over-with :
+    (limit : MemoryLimit) (catalog : Catalog) (load : Load) (text : List ℕ)
+    → load.lines ≡ length (lines_in text) → load.bytes ≡ length text
+    → limit.bytes < most_bytes_with limit.each catalog load
+    → limit.bytes < most_bytes_with limit.each catalog (load_of text)
+over-with limit catalog load text many bytes over = of (length (lines_in text)) (length text) many bytes
+  where
+    of :
+        (n m : ℕ) → load.lines ≡ n → load.bytes ≡ m
+        → limit.bytes < most_bytes_with limit.each catalog (record { lines = n; bytes = m })
+    of n m many bytes = rw (sym many, sym bytes) over

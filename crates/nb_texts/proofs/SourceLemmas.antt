@@ -1,9 +1,150 @@
 -- An input that is read piece by piece, and cut behind a newline.
-use Rattle.std.proofs.Common.{◌≡◌, ◌∙◌, ℕ, Bool, true, false, List, [], ◌∷◌, ◌++◌, None, Option, Some, IfSome, ap, append-nil, append_assoc, refl, subst, sym}
+use Rattle.std.proofs.Common.{◌≡◌, ◌≢◌, ◌∙◌, ◌+◌, ◌-◌, ◌<◌, ◌≤◌, ◌==◌, ℕ, suc, Bool, true, false, cond, List, [], ◌∷◌, ◌++◌, None, Option, Some, IfSome, ap, append-nil, append_assoc, arith, drop, length, length-append, length-drop, refl, slice_index, subst, sym}
+use Rattle.std.proofs.lemmas.Bool.{eq-eqb, ne_eqb}
+use Rattle.std.proofs.lemmas.List.{get_or-drop}
+use Rattle.std.proofs.lemmas.List.Elements.{All-append, All-from_get_or}
+use Rattle.std.proofs.lemmas.List.Sums.{sum_by-cons}
+use Rattle.std.specs.Prelude.{count_by}
+use Rattle.std.specs.Bool.{OnTrue}
 use Rattle.std.specs.Io.KnownBytes.{Consumes, IsAtEnd, Keeps}
-use Rattle.nb_texts.specs.Lines.{lines_in}
-use Rattle.nb_texts.specs.Sources.{HasCut}
+use Rattle.nb_texts.specs.Lines.{lines_in, onto}
+use Rattle.nb_texts.specs.Sources.{HasCut, HasTakenIn, IsBlock, IsInOneLine}
+use Rattle.nb_texts.specs.declared.source.Turn.TheVariants.{Cut, Ended, More}
 use Rattle.nb_texts.proofs.LinesLemmas.{lines-append}
+
+-- ---- the first line of a block
+
+abbrev first_of : List (List ℕ) → List ℕ
+first_of [] = []
+first_of (line ∷ lines) = line
+
+onto-first : (byte : ℕ) (lines : List (List ℕ)) → first_of (onto byte lines) ≡ byte ∷ first_of lines
+onto-first byte [] = refl
+onto-first byte (line ∷ lines) = refl
+
+onto-others : (byte : ℕ) (lines : List (List ℕ))
+    → (others : List (List ℕ)) × (onto byte lines ≡ first_of (onto byte lines) ∷ others)
+onto-others byte [] = ([], refl)
+onto-others byte (line ∷ lines) = (lines, refl)
+
+lines-others :
+    (byte : ℕ) (text : List ℕ) → (others : List (List ℕ))
+    × (lines_in (byte ∷ text) ≡ first_of (lines_in (byte ∷ text)) ∷ others)
+lines-others byte text = of (byte == 10)
+  where
+    of :
+        (b : Bool) → (others : List (List ℕ))
+        × (cond b ([] ∷ lines_in text) (onto byte (lines_in text))
+        ≡ first_of (cond b ([] ∷ lines_in text) (onto byte (lines_in text))) ∷ others)
+    of true = (lines_in text, refl)
+    of false = onto-others byte (lines_in text)
+
+-- it is as long as what comes before the first newline
+first-long :
+    (front back : List ℕ) → IsInOneLine front
+    → length front ≤ length (first_of (lines_in (front ++ back)))
+first-long [] back one = omega arith
+first-long (byte ∷ front) back one =
+    rw (ne_eqb byte 10 (one 0 0 (omega arith)))
+    (omega (
+      arith,
+      first-long front back (λ k d less. one (suc k) d (omega (arith, less))),
+      ap length (onto-first byte (lines_in (front ++ back))),
+    ))
+
+pub block-of :
+    (ahead : ℕ) (text front part : List ℕ) → text ≡ front ++ part → text ≢ [] → IsInOneLine front
+    → length part ≤ ahead → IsBlock ahead text
+block-of ahead [] front part is some one few = absurd (some refl)
+block-of ahead (byte ∷ text) front part is some one few =
+    let there = lines-others byte text in
+    let long : length front ≤ length (first_of (lines_in (byte ∷ text)))
+    = subst (λ text. length front ≤ length (first_of (lines_in text))) (sym is)
+    (first-long front part one) in
+    record {
+      first = first_of (lines_in (byte ∷ text));
+      others = there.0;
+      lines = there.1;
+      short = omega (arith, long, few, ap length is, length-append front part);
+    }
+
+-- behind the last newline, or where there is none
+pub one-behind :
+    (text : List ℕ) (n : ℕ) → ((k : ℕ) → n ≤ k → k < length text → slice_index text k ≢ 10)
+    → IsInOneLine (drop n text)
+one-behind text n other =
+    All-from_get_or (λ byte. byte ≢ 10) (drop n text) 0
+    (λ i less is. other (n + i) (omega arith) (omega (arith, less, length-drop n text))
+    (sym (get_or-drop n text i 0) ∙ is))
+
+-- ---- how many lines a text has
+
+onto-many : (byte : ℕ) (lines : List (List ℕ)) → 1 ≤ length lines
+    → length (onto byte lines) ≡ length lines
+onto-many byte [] some = absurd (omega (arith, some))
+onto-many byte (line ∷ lines) some = refl
+
+-- one for each newline, and one more where the last byte is none
+lines-many :
+    (byte : ℕ) (text : List ℕ)
+    → length (lines_in (byte ∷ text))
+    ≡ count_by (λ byte. byte == 10) (byte ∷ text)
+    + cond {A = ℕ} (slice_index (byte ∷ text) (length text) == 10) 0 1
+lines-many byte [] =
+    omega (
+      arith,
+      of (byte == 10),
+      sum_by-cons (λ byte. cond {A = ℕ} (byte == 10) 1 0) byte [],
+    )
+  where
+    of :
+        (b : Bool) → length (cond b ([] ∷ []) ((byte ∷ []) ∷ []))
+        ≡ cond {A = ℕ} b 1 0 + cond {A = ℕ} b 0 1
+    of true = refl
+    of false = refl
+lines-many byte (next ∷ text) =
+    omega (
+      arith,
+      of (byte == 10),
+      lines-many next text,
+      sum_by-cons (λ byte. cond {A = ℕ} (byte == 10) 1 0) byte (next ∷ text),
+    )
+  where
+    of :
+        (b : Bool) → length (cond b ([] ∷ lines_in (next ∷ text)) (onto byte (lines_in (next ∷ text))))
+        ≡ cond {A = ℕ} b 1 0 + length (lines_in (next ∷ text))
+    of true = omega arith
+    of false =
+        let others = lines-others next text in
+        omega (arith, onto-many byte (lines_in (next ∷ text)) (omega (arith, ap length others.1)))
+
+pub lines-closed :
+    (text : List ℕ) → 0 < length text → slice_index text (length text - 1) ≡ 10
+    → count_by (λ byte. byte == 10) text ≡ length (lines_in text)
+lines-closed [] some last = absurd (omega (arith, some))
+lines-closed (byte ∷ text) some last =
+    let at : length (byte ∷ text) - 1 ≡ length text = omega arith in
+    let is = subst (λ k. slice_index (byte ∷ text) k ≡ 10) at last in
+    omega (
+      arith,
+      lines-many byte text,
+      ap (λ b. cond {A = ℕ} b 0 1) (eq-eqb (slice_index (byte ∷ text) (length text)) 10 is),
+    )
+
+pub lines-open :
+    (text : List ℕ) → 0 < length text → slice_index text (length text - 1) ≢ 10
+    → count_by (λ byte. byte == 10) text + 1 ≡ length (lines_in text)
+lines-open [] some last = absurd (omega (arith, some))
+lines-open (byte ∷ text) some last =
+    let at : length (byte ∷ text) - 1 ≡ length text = omega arith in
+    let is = subst (λ k. slice_index (byte ∷ text) k ≢ 10) at last in
+    omega (
+      arith,
+      lines-many byte text,
+      ap (λ b. cond {A = ℕ} b 0 1) (ne_eqb (slice_index (byte ∷ text) (length text)) 10 is),
+    )
+
+-- ---- pieces
 
 -- what was left is what was read, and what the reader has left now
 abbrev pub HasRead : (known now : Option (List ℕ)) → (before block : List ℕ) → Type 0
@@ -76,14 +217,69 @@ cut-all some (Some input) now before block (left, is, same) end empty =
     }
 
 pub read-on :
-    (known now next : Option (List ℕ)) (before block block' rest bytes : List ℕ)
-    → HasRead known now before block → Consumes now next bytes → block' ++ rest ≡ block ++ bytes
+    (known now next : Option (List ℕ)) (before block block' part rest : List ℕ)
+    → HasRead known now before block → Consumes now next (part ++ rest) → block' ≡ block ++ part
     → HasRead known next before (block' ++ rest)
-read-on known now next before block block' rest bytes read took kept =
-    subst (HasRead known next before) (sym kept) (read-more known now next before block bytes read took)
+read-on known now next before block block' part rest read took kept =
+    subst (HasRead known next before)
+    (sym (append_assoc block part rest) ∙ ap (λ block. block ++ rest) (sym kept))
+    (read-more known now next before block (part ++ rest) read took)
 
 pub read-whole :
     (known next : Option (List ℕ)) (before block rest : List ℕ)
     → HasRead known next before (block ++ rest) → rest ≡ [] → HasRead known next before block
 read-whole known next before block rest read none =
     subst (HasRead known next before) (ap (λ rest. block ++ rest) none ∙ append-nil block) read
+
+-- ---- what the next block is
+
+pub none-in-line : (text : List ℕ) → text ≡ [] → IsInOneLine text
+none-in-line text none = λ k d less. absurd (omega (arith, less, ap length none))
+
+-- the block ends behind the last newline that was read
+pub cut-done :
+    (ahead : ℕ) (known now next : Option (List ℕ)) (before old block rest : List ℕ)
+    → HasRead known now before old → IsInOneLine old → HasTakenIn ahead now next old block rest Cut
+    → HasCut true known next before block rest × IsBlock ahead block
+cut-done ahead known now next before old block rest read one on =
+    let front = on.ends.0.0 in
+    let ends : block ≡ (old ++ front) ++ 10 ∷ []
+    = on.kept ∙ ap (λ part. old ++ part) on.ends.0.1 ∙ sym (append_assoc old front (10 ∷ [])) in
+    let many = length-append (old ++ front) (10 ∷ []) in (
+      cut-behind known next before block rest (old ++ front)
+          (read-on known now next before old block on.part rest read on.took on.kept) ends,
+      block-of ahead block old on.part on.kept
+          (λ none. absurd (omega (arith, ap length ends, ap length none, many))) one on.few,
+    )
+
+-- the input has ended
+pub end-done :
+    (some : Bool) (ahead : ℕ) (known now next : Option (List ℕ)) (before old block rest : List ℕ)
+    → HasRead known now before old → IsInOneLine old → HasTakenIn ahead now next old block rest Ended
+    → (some ≡ false → block ≡ []) → (some ≡ true → block ≢ [])
+    → HasCut some known next before block rest × OnTrue some (IsBlock ahead block)
+end-done some ahead known now next before old block rest read one on empty full =
+    let none = on.ends.1 in
+    let all =
+    read-whole known next before block rest
+    (read-on known now next before old block on.part rest read on.took on.kept) none in (
+      subst (HasCut some known next before block) (sym none)
+          (cut-all some known next before block all on.ends.2 empty),
+      of some full,
+    )
+  where
+    of : (some : Bool) → (some ≡ true → block ≢ []) → OnTrue some (IsBlock ahead block)
+    of true full =
+        block-of ahead block old on.part on.kept (full refl) one (omega (arith, ap length on.ends.0))
+    of false full = tt
+
+-- no newline came
+pub more-done :
+    (ahead : ℕ) (known now next : Option (List ℕ)) (before old block rest : List ℕ)
+    → HasRead known now before old → IsInOneLine old → HasTakenIn ahead now next old block rest More
+    → HasRead known next before block × IsInOneLine block
+more-done ahead known now next before old block rest read one on = (
+  read-whole known next before block rest
+      (read-on known now next before old block on.part rest read on.took on.kept) on.ends.1,
+  subst IsInOneLine (sym on.kept) (All-append (λ byte. byte ≢ 10) old on.part one on.ends.0),
+)

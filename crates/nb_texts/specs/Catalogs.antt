@@ -1,11 +1,15 @@
 -- A catalog: texts, and a map in which each is found by its hash.
-use Rattle.std.specs.Prelude.{◌≡◌, All}
+use Rattle.std.specs.Prelude.{◌≡◌, ◌≤◌, ◌⊎◌, ℕ, All}
 use Rattle.nb_core.specs.Plans.{HasRoomFor}
-use Rattle.nb_map.specs.Handles.{HandleOf}
+use Rattle.nb_lines.specs.declared.faults.ProgramFault.TheVariants as fault
+use Rattle.nb_lines.specs.declared.faults.ProgramFault.{ProgramFault}
+use Rattle.nb_map.specs.Handles.{HandleOf, IsWhole}
 use Rattle.nb_map.specs.Logs.{log}
 use Rattle.nb_map.specs.OneSeat.{held}
+use Rattle.nb_map.specs.Renewing.{HasTooMany}
 use Rattle.nb_texts.specs.Entering.{IsIndex}
 use Rattle.nb_texts.specs.Hashes.{key_for}
+use Rattle.nb_texts.specs.Memory.{shape_with_room}
 use Rattle.nb_texts.specs.declared.catalog.Catalog.{Catalog}
 
 -- all seats of the handle know one and the same log
@@ -17,3 +21,13 @@ pub record IsAtRest (catalog : Catalog) : Type 0 where
   pub logs : HaveOneLog catalog.handle
   pub index : IsIndex (key_for catalog.hashing) catalog.texts (held catalog.handle.seat)
   pub room : HasRoomFor catalog.handle.map.chain.shape catalog.room
+
+-- A map with room for so many lines or more can't take its place: it has more keys than that map has
+-- slots, or not all seats of its own.
+abbrev pub CannotRenew : (lines : ℕ) → HandleOf → Type 0
+CannotRenew lines handle =
+    ((room : ℕ) × (lines ≤ room) × HasTooMany (shape_with_room room) handle) ⊎ (IsWhole handle → ⊥)
+
+-- the fault is that memory was refused, or lines found no room
+abbrev pub IsNoRoom : ProgramFault → Type 0
+IsNoRoom told = (told ≡ fault.OutOfMemory) ⊎ (told ≡ fault.FullOfLines)

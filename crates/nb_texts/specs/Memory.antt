@@ -1,11 +1,22 @@
 -- How many bytes are kept of lines.
-use Rattle.std.specs.Prelude.{◌≡◌, ◌+◌, ◌*◌, ◌/◌, ◌<◌, ◌≤◌, ℕ, Bool, true, false, None, Option, Some, IfSome, List, if◌then◌else◌, length, min, nat_le, sum_by}
+use Rattle.std.specs.Prelude.{◌≡◌, ◌+◌, ◌*◌, ◌/◌, ◌<◌, ◌≤◌, ℕ, Bool, true, false, None, Option, Some, IfSome, List, if◌then◌else◌, length, max, min, nat_le, sum_by}
 use Rattle.nb_core.specs.Plans.{Plan, plan_for_keys, word_count}
 use Rattle.nb_core.specs.declared.shapes.TheConstants.{MOST_KEYS}
+use Rattle.nb_texts.specs.Lines.{lines_in}
 use Rattle.nb_texts.specs.declared.catalog.Catalog.{Catalog}
 use Rattle.nb_texts.specs.declared.catalog.TheConstants.{SEATS}
 use Rattle.nb_texts.specs.declared.memory.Load.{Load}
 use Rattle.nb_texts.specs.declared.memory.MemoryLimit.{MemoryLimit}
+use Rattle.nb_texts.specs.declared.plan.TheConstants.{AHEAD, BYTES_OF_AHEAD}
+
+-- how many bytes are asked for at once: under a limit a part of it, one at least
+abbrev pub ahead_under : Option MemoryLimit → ℕ
+ahead_under None = AHEAD
+ahead_under (Some limit) = max (min AHEAD (limit.bytes / BYTES_OF_AHEAD)) 1
+
+-- the lines of a text
+abbrev pub load_of : List ℕ → Load
+load_of text = record { lines = length (lines_in text); bytes = length text }
 
 -- each line takes its own bytes, and so many more
 abbrev pub bytes_of_load : (each : ℕ) → Load → ℕ

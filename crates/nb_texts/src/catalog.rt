@@ -1,5 +1,5 @@
 //! A catalog: the distinct lines of a stream, found by their hashes in a map.
-ghost use Rattle.std.specs.Prelude.{◌≡◌, ◌+◌, ◌^◌, ◌≤◌, ◌<◌, ◌↔◌, ◌⊎◌, ◌++◌, [], ◌∷◌, ℕ, All, IfOk, IsTrue, List, MatchOption, None, OnErr, OnOk, Some, drop, length, map, min, slice_get, sum_by};
+ghost use Rattle.std.specs.Prelude.{◌≡◌, ◌+◌, ◌^◌, ◌≤◌, ◌<◌, ◌↔◌, ◌⊎◌, ◌++◌, [], ◌∷◌, ℕ, All, IfErr, IfOk, IsOkUnless, IsTrue, List, MatchOption, None, OnErr, OnOk, Some, drop, length, map, min, slice_get, sum_by};
 ghost use Rattle.std.specs.Bool.{OnFalse, OnTrue};
 ghost use Rattle.nb_core.specs.Meaning.{IsCrowded};
 ghost use Rattle.nb_core.specs.Plans.{HasRoomFor};
@@ -11,12 +11,12 @@ ghost use Rattle.nb_map.specs.NamedCalls.{put_if_absent_of};
 ghost use Rattle.nb_map.specs.OneSeat.{held};
 ghost use Rattle.nb_map.specs.Renewing.{HasTooMany};
 ghost use Rattle.nb_map.specs.Settling.{HaveSettled};
-ghost use Rattle.nb_texts.specs.Catalogs.{HaveOneLog};
+ghost use Rattle.nb_texts.specs.Catalogs.{CannotRenew, HaveOneLog, IsNoRoom};
 ghost use Rattle.nb_texts.specs.Clues.{AreCluesTo, ArePartedFrom, IsClueTo};
 ghost use Rattle.nb_texts.specs.Entering.{HasEntered};
 ghost use Rattle.nb_texts.specs.Hashes.{hash_of, key_for};
 ghost use Rattle.nb_texts.specs.Lines.{lines_in, text_of_lines, with_new_lines};
-ghost use Rattle.nb_texts.specs.Memory.{bytes_to_make, shape_with_room, widened};
+ghost use Rattle.nb_texts.specs.Memory.{bytes_to_make, lines_with, shape_with_room, widened};
 
 use crate::clues::{Clue, Found, found_by};
 use crate::hashing::{Hashing, key_after};
@@ -72,6 +72,7 @@ impl Catalog {
         ensures empty { IfOk result (λ catalog. catalog.texts ≡ []) }
         ensures hashing { IfOk result (λ catalog. catalog.hashing ≡ hashing) }
         ensures room { IfOk result (λ catalog. catalog.room ≡ min room MOST_KEYS) }
+        ensures errors { IsOkUnless result fault.OutOfMemory }
     {
         let room = room.min(MOST_KEYS);
         let handle = Handle::open(alloc, shape_for(room))?;
@@ -112,6 +113,9 @@ impl Catalog {
         ensures rest { OnOk result (IsAtRest self.new) }
         ensures room { OnOk result (min (length self.new.texts + lines) MOST_KEYS ≤ self.new.room) }
         ensures same { self.new.texts ≡ self.old.texts }
+        ensures errors { IfErr result IsNoRoom }
+        ensures full { result ≡ Err fault.FullOfLines
+            → CannotRenew (min (length self.old.texts + lines) MOST_KEYS) self.old.handle }
     {
         let needed = self.texts.len().saturating_add(lines);
         if needed.min(MOST_KEYS) <= self.room {
@@ -135,6 +139,9 @@ impl Catalog {
         ensures same { self.new.texts ≡ self.old.texts }
         ensures fits { IfOk result (TellsWhetherFits limit self.new block) }
         ensures back { IfOk result (λ fits. OnFalse fits (self.new ≡ self.old)) }
+        ensures errors { IfErr result IsNoRoom }
+        ensures full { result ≡ Err fault.FullOfLines
+            → CannotRenew (lines_with self.old block) self.old.handle }
     {
         match limit {
             Some(limit) => self.make_room_in(alloc, limit, block),
@@ -159,6 +166,9 @@ impl Catalog {
         ensures same { self.new.texts ≡ self.old.texts }
         ensures fits { IfOk result (TellsWhetherFits (Some limit) self.new block) }
         ensures back { IfOk result (λ fits. OnFalse fits (self.new ≡ self.old)) }
+        ensures errors { IfErr result IsNoRoom }
+        ensures full { result ≡ Err fault.FullOfLines
+            → CannotRenew (lines_with self.old block) self.old.handle }
     {
         let words = self.handle.shape().words();
         let Some(left) = left_beside(limit, self.load(), block, words) else {
@@ -194,6 +204,8 @@ impl Catalog {
         ensures room { OnOk result (self.new.room ≡ room) }
         ensures same { self.new.texts ≡ self.old.texts }
         ensures shape { OnOk result (self.new.handle.map.chain.shape ≡ shape_with_room room) }
+        ensures errors { IfErr result IsNoRoom }
+        ensures full { result ≡ Err fault.FullOfLines → CannotRenew room self.old.handle }
     {
         renew(alloc, &mut self.handle, shape_for(room))?;
         self.room = room;
@@ -217,6 +229,7 @@ impl Catalog {
         ensures places { IfOk result (λ places. map (slice_get self.new.texts) places.items
             ≡ map Some (lines_in block.now)) }
         ensures map { OnOk result (self.new.handle.map ≡ self.old.handle.map) }
+        ensures errors { IfErr result IsNoRoom }
     {
         let readers = parted(alloc, &mut self.handle, readers_for(block.len(), workers))?;
         let found = found_by(rt, alloc, &self.texts, self.hashing, readers, block)?;
@@ -297,6 +310,7 @@ fn renew(alloc: Global, handle: &mut Handle, shape: Shape) -> Result<(), Program
     ensures shape { OnOk result (handle.new.map.chain.shape ≡ shape) }
     ensures full { result ≡ Err fault.FullOfLines
         → HasTooMany shape handle.old ⊎ (IsWhole handle.old → ⊥) }
+    ensures errors { IfErr result IsNoRoom }
 {
     match handle.renew(alloc, shape) {
         Ok(()) => Ok(()),
@@ -372,6 +386,7 @@ fn enter_lines<R: Wait>(
         texts.old texts.new (lines_in block.now)) }
     ensures places { IfOk result (λ places. map (slice_get texts.new) places.items
         ≡ map Some (lines_in block.now)) }
+    ensures errors { IfErr result IsNoRoom }
 {
     handle.known();
     let mut places = Vec::with_capacity(alloc, clues.len())?;
@@ -400,6 +415,7 @@ fn enter_by<R: Wait>(
         texts.old texts.new (line.now ∷ [])) }
     ensures grown { OnOk result ((more : List (List ℕ)) × (texts.new ≡ texts.old ++ more)) }
     ensures placed { IfOk result (λ place. slice_get texts.new place ≡ Some line.now) }
+    ensures errors { IfErr result IsNoRoom }
 {
     handle.known();
     match clue {
@@ -423,6 +439,7 @@ fn enter_line<R: Wait>(
         texts.old texts.new (line.now ∷ [])) }
     ensures grown { OnOk result ((more : List (List ℕ)) × (texts.new ≡ texts.old ++ more)) }
     ensures placed { IfOk result (λ place. slice_get texts.new place ≡ Some line.now) }
+    ensures errors { IfErr result IsNoRoom }
 {
     handle.known();
     let place = texts.len();
@@ -456,6 +473,7 @@ fn put<R: Wait>(
         handle.old.seat handle.new.seat) }
     ensures full { OnErr result (IsCrowded handle.old.map.chain.shape handle.new.seat.chain.seen
         key) }
+    ensures errors { IsOkUnless result fault.FullOfLines }
 {
     match handle.put_if_absent(rt, key, number) {
         Ok(found) => Ok(found),
@@ -467,6 +485,7 @@ fn put<R: Wait>(
 fn number_of(place: usize) -> Result<Num, ProgramFault>
     ensures same { IfOk result (λ number. number ≡ place) }
     ensures full { OnErr result (2 ^ 60 ≤ place) }
+    ensures errors { IsOkUnless result fault.FullOfLines }
 {
     match Num::new(place as u64) {
         Ok(number) => Ok(number),

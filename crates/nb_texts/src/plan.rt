@@ -1,5 +1,6 @@
 //! How a program takes the lines of an input.
-ghost use Rattle.std.specs.Prelude.{◌≡◌, ◌/◌, ◌≤◌, MatchOption, min};
+ghost use Rattle.std.specs.Prelude.{◌≡◌, ◌/◌, MatchOption, min};
+ghost use Rattle.nb_texts.specs.Memory.{ahead_under};
 
 use crate::hashing::Hashing;
 use crate::memory::MemoryLimit;
@@ -31,8 +32,7 @@ pub struct LinePlan {
 impl LinePlan {
     /// How many bytes are asked for at once.
     pub fn ahead(&self) -> usize
-        ensures least { 1 ≤ result }
-        ensures most { result ≤ AHEAD }
+        ensures { result ≡ ahead_under self.now.limit }
     {
         match self.limit {
             Some(limit) => AHEAD.min(limit.bytes / BYTES_OF_AHEAD).max(1),

@@ -1,7 +1,10 @@
 //! An input, read in blocks of whole lines.
 ghost use Rattle.std.specs.Io.KnownBytes.{Consumes, IsAtEnd, Keeps};
-ghost use Rattle.std.specs.Prelude.{◌≡◌, ◌+◌, ◌%◌, ◌^◌, ◌<◌, ◌≤◌, ◌==◌, [], IfOk, MatchOption, count_by, length, take};
-ghost use Rattle.nb_texts.specs.Sources.{HasCut, HasTakenIn};
+ghost use Rattle.std.specs.Bool.{OnTrue};
+ghost use Rattle.std.specs.Prelude.{◌≡◌, ◌+◌, ◌%◌, ◌^◌, ◌<◌, ◌≤◌, ◌==◌, [], IfErr, IfOk, IsOkUnless, MatchOption, OnOk, count_by, length, take};
+ghost use Rattle.nb_lines.specs.declared.faults.ProgramFault.TheVariants as fault;
+ghost use Rattle.nb_texts.specs.Lines.{lines_in};
+ghost use Rattle.nb_texts.specs.Sources.{HasCut, HasTakenIn, IsBlock, IsInOneLine, IsReadFault};
 
 use memchr::memrchr;
 use nb_lines::{Done, ProgramFault};
@@ -32,6 +35,7 @@ impl LineSource {
     pub fn new(alloc: Global, ahead: usize) -> Result<LineSource, ProgramFault>
         ensures rest { IfOk result (λ source. source.rest.items ≡ []) }
         ensures room { IfOk result (λ source. length source.room.items ≡ ahead) }
+        ensures errors { IsOkUnless result fault.OutOfMemory }
     {
         Ok(LineSource {
             block: Vec::new(alloc),
@@ -47,20 +51,20 @@ impl LineSource {
         self.block.as_slice()
     }
 
-    /// How many newlines the block has. Only the last line of an input may have none.
-    pub fn newlines(&self) -> usize
-        ensures { result ≡ count_by (λ byte. byte == 10) self.now.block.items }
+    /// How many lines the block has.
+    pub fn lines(&self) -> usize
+        ensures { result ≡ length (lines_in self.now.block.items) }
     {
-        newlines_in(self.block.as_slice())
+        count_lines(self.block.as_slice())
     }
 
-    /// What is done once the block is too, which has so many newlines.
-    pub fn done_with(&self, done: Done, newlines: usize) -> Done
-        ensures lines { result.lines ≡ (done.lines + newlines) % 2 ^ 64 }
+    /// What is done once the block is too, which has so many lines.
+    pub fn done_with(&self, done: Done, lines: usize) -> Done
+        ensures lines { result.lines ≡ (done.lines + lines) % 2 ^ 64 }
         ensures bytes { result.bytes ≡ (done.bytes + length self.now.block.items) % 2 ^ 64 }
     {
         Done {
-            lines: done.lines.wrapping_add(newlines as u64),
+            lines: done.lines.wrapping_add(lines as u64),
             bytes: done.bytes.wrapping_add(self.block.len() as u64),
         }
     }
@@ -68,8 +72,15 @@ impl LineSource {
     /// Reads the next block: whole lines that are there, one at least, for which it waits. It answers
     /// whether there was one.
     pub fn refill<I: Read>(&mut self, reader: &mut I) -> Result<bool, ProgramFault>
-        ensures { IfOk result (λ some. HasCut some (I.remaining reader.old) (I.remaining reader.new)
-            self.old.rest.items self.new.block.items self.new.rest.items) }
+        requires rest { IsInOneLine self.old.rest.items }
+        ensures rest { OnOk result (IsInOneLine self.new.rest.items) }
+        ensures cut { IfOk result (λ some.
+            HasCut some (I.remaining reader.old) (I.remaining reader.new) self.old.rest.items
+            self.new.block.items self.new.rest.items) }
+        ensures block { IfOk result (λ some.
+            OnTrue some (IsBlock (length self.old.room.items) self.new.block.items)) }
+        ensures room { length self.new.room.items ≡ length self.old.room.items }
+        ensures errors { IfErr result IsReadFault }
     {
         self.block.clear();
         self.block.extend_from_slice(self.rest.as_slice())?;
@@ -87,6 +98,21 @@ impl LineSource {
             }
         }
         Err(ProgramFault::Read)
+    }
+}
+
+/// How many lines a text has.
+fn count_lines(text: &[u8]) -> usize
+    ensures { result ≡ length (lines_in text.now) }
+{
+    if text.is_empty() {
+        return 0;
+    }
+    let newlines = newlines_in(text);
+    if text[text.len() - 1] == b'\n' {
+        newlines
+    } else {
+        newlines + 1
     }
 }
 
@@ -111,8 +137,10 @@ fn read_on<I: Read>(
     rest: &mut Vec<u8>,
 ) -> Result<Turn, ProgramFault>
     requires { rest.old.items ≡ [] }
-    ensures { IfOk result (HasTakenIn (I.remaining reader.old) (I.remaining reader.new)
-        block.old.items block.new.items rest.new.items) }
+    ensures taken { IfOk result (HasTakenIn (length room.old) (I.remaining reader.old)
+        (I.remaining reader.new) block.old.items block.new.items rest.new.items) }
+    ensures room { length room.new ≡ length room.old }
+    ensures errors { IfErr result IsReadFault }
 {
     if room.is_empty() {
         return Err(ProgramFault::Read);
@@ -135,11 +163,13 @@ fn read_on<I: Read>(
 
 /// Reads what is there, and answers how many bytes that is, or nothing where a signal came first.
 fn read_some<I: Read>(reader: &mut I, room: &mut [u8]) -> Result<Option<usize>, ProgramFault>
+    ensures room { length room.new ≡ length room.old }
     ensures read { IfOk result (λ some. MatchOption some
         (Keeps (I.remaining reader.old) (I.remaining reader.new))
         (λ count. (count ≤ length room.new)
         × Consumes (I.remaining reader.old) (I.remaining reader.new) (take count room.new)
         × (count ≡ 0 → 0 < length room.new → IsAtEnd (I.remaining reader.new)))) }
+    ensures errors { IfErr result IsReadFault }
 {
     match reader.read(room) {
         Ok(count) => Ok(Some(count)),

@@ -1,8 +1,11 @@
 //! How often each line comes.
 ghost use Rattle.std.specs.Bool.{OnFalse, OnTrue};
-ghost use Rattle.std.specs.Prelude.{◌≡◌, ◌+◌, ◌<◌, ◌≤◌, ◌++◌, ◌==◌, ℕ, List, [], IfOk, OnOk, count_by, length, min, slice_index};
+ghost use Rattle.std.specs.Prelude.{◌≡◌, ◌+◌, ◌<◌, ◌≤◌, ◌++◌, ◌==◌, ◌⊎◌, ℕ, List, [], IfErr, IfOk, IsOkUnless, OnOk, count_by, length, min, slice_index};
 ghost use Rattle.nb_core.specs.declared.shapes.TheConstants.{MOST_KEYS};
+ghost use Rattle.nb_lines.specs.declared.faults.ProgramFault.TheVariants as fault;
+ghost use Rattle.nb_texts.specs.Catalogs.{CannotRenew, IsNoRoom};
 ghost use Rattle.nb_texts.specs.Lines.{lines_in, with_new_lines};
+ghost use Rattle.nb_texts.specs.Memory.{lines_with};
 ghost use Rattle.nb_texts.specs.Tallies.{IsTally};
 
 use crate::catalog::Catalog;
@@ -50,8 +53,9 @@ impl LineTally {
     /// The lines, in the order of their first coming.
     pub fn rows(&self, alloc: Global) -> Result<Vec<Row<'_>>, ProgramFault>
         requires { length self.now.counts.items ≡ length self.now.catalog.texts }
-        ensures { IfOk result (λ rows.
+        ensures rows { IfOk result (λ rows.
             AreRowsOf self.now.catalog.texts self.now.counts.items rows.items) }
+        ensures errors { IsOkUnless result fault.OutOfMemory }
     {
         let mut rows = Vec::with_capacity(alloc, self.counts.len())?;
         for (place, times) in self.counts.iter().enumerate() {
@@ -80,6 +84,9 @@ impl LineTally {
         ensures counts { self.new.counts ≡ self.old.counts }
         ensures fits { IfOk result (TellsWhetherFits limit self.new.catalog block) }
         ensures back { IfOk result (λ fits. OnFalse fits (self.new.catalog ≡ self.old.catalog)) }
+        ensures errors { IfErr result IsNoRoom }
+        ensures full { result ≡ Err fault.FullOfLines
+            → CannotRenew (lines_with self.old.catalog block) self.old.catalog.handle }
     {
         self.catalog.make_room_within(alloc, limit, block)
     }
@@ -103,6 +110,7 @@ impl LineTally {
             → IsTally lines self.old.catalog.texts self.old.counts.items
             → IsTally (lines ++ lines_in block.now) self.new.catalog.texts
             self.new.counts.items) }
+        ensures errors { IfErr result (λ told. IsNoRoom told ⊎ (told ≡ fault.TooOften)) }
     {
         let places = self.catalog.enter(rt, alloc, block, workers)?;
         let many = self.catalog.len();
@@ -117,6 +125,7 @@ fn pad(counts: &mut Vec<u64>, many: usize) -> Result<(), ProgramFault>
     ensures many { OnOk result (length counts.new.items ≡ many) }
     ensures same { OnOk result ((q : ℕ)
         → slice_index counts.new.items q ≡ slice_index counts.old.items q) }
+    ensures errors { IfErr result (λ told. IsNoRoom told ⊎ (told ≡ fault.TooOften)) }
 {
     for _ in counts.len()..many {
         counts.push(0)?;
@@ -134,6 +143,7 @@ fn count(counts: &mut Vec<u64>, places: &[usize]) -> Result<(), ProgramFault>
     ensures counted { OnOk result ((q : ℕ) → q < length counts.new.items
         → slice_index counts.new.items q
         ≡ slice_index counts.old.items q + count_by (λ place. place == q) places.now) }
+    ensures errors { IsOkUnless result fault.TooOften }
 {
     for place in places {
         if *place >= counts.len() {

@@ -1,12 +1,12 @@
 use Rattle.std.proofs.Common.{◌≡◌, ◌∙◌, ◌+◌, ◌<◌, ◌≤◌, ◌^◌, ap, ap₂, arith, false, length, refl, subst, sym, true}
 use Rattle.std.proofs.lemmas.Bool.Decides.{nat_tests}
-use Rattle.std.proofs.lemmas.List.{length-map}
-use Rattle.std.specs.Prelude.{Some, slice_get}
-use Rattle.nb_texts.proofs.Theorems.{kept-more, kept-none}
+use Rattle.std.specs.Bool.{OnTrue}
+use Rattle.nb_texts.proofs.Theorems.{kept-more, kept-none, none-in-line}
 use Rattle.nb_texts.specs.Lines.{lines_in, with_new_lines}
-use Rattle.nb_texts.specs.Memory.{TellsWhetherFits}
+use Rattle.nb_texts.specs.Memory.{TellsWhetherFits, ahead_under}
+use Rattle.nb_texts.specs.Sources.{IsBlock}
 use Rattle.nb_texts.specs.declared.memory.Load.{Load}
-use Rattle.nb_dedup.proofs.OnceLemmas.{limited, lines-most, underway-begun, underway-first, underway-more}
+use Rattle.nb_dedup.proofs.OnceLemmas.{limited, underway-begun, underway-first, underway-more}
 use Rattle.nb_dedup.proofs.lines_once.print_once.Goals as goal
 
 pub loop-init : goal.loop-init
@@ -18,6 +18,8 @@ loop-init g c =
           c.in_ok-source.ensures.rest,
       kept-none c.args.plan.limit catalog,
       refl,
+      none-in-line c.in_ok-source.source.rest.items c.in_ok-source.ensures.rest,
+      c.in_ok-source.ensures.room ∙ c.ahead.ensures,
     )
 
 pub returns-then-not-branch-clause-first : goal.returns-then-not-branch-clause-first
@@ -42,14 +44,19 @@ returns-then-not-branch-2-clause-full g c = λ part.
     let con = g.W.Write.contents in
     let now = c.loop in
     let block = c.refill.new.self.block.items in
-    let load : Load = record { lines = c.saturating_add.result; bytes = length c.block.result.now } in
+    let load : Load = record { lines = c.lines-lines.result; bytes = length c.block-bytes.result.now } in
     let catalog = c.make_room_within.new.self in
     let stopped : c.in_ok-make_room_within.field-0 ≡ false = grind (arith, nat_tests, c.if-not-branch-2.true) in
+    let some : c.in_ok-refill.field-0 ≡ true = grind (arith, nat_tests, c.if-not-branch.false) in
+    let one : IsBlock (ahead_under c.args.plan.limit) block
+    = subst (λ ahead. IsBlock ahead block) now.invariant.5
+    (subst (λ some. OnTrue some (IsBlock (length now.source.room.items) block)) some
+    c.in_ok-refill.ensures.block) in
     limited c.args.plan.limit (rem c.args.reader.now) (rem now.reader) (rem c.refill.new.reader)
     (con c.args.writer.now) (con now.writer) now.taken.lines now.catalog.texts now.source.rest.items
     c.refill.new.self.rest.items block c.in_ok-refill.field-0 load catalog now.invariant.1
-    c.in_ok-refill.ensures (omega (arith, c.saturating_add.ensures, c.newlines-newlines.ensures))
-    (ap length c.block.ensures)
+    c.in_ok-refill.ensures.cut one c.lines-lines.ensures
+    (ap length c.block-bytes.ensures)
     (subst (TellsWhetherFits c.args.plan.limit catalog load) stopped c.in_ok-make_room_within.ensures.fits)
 
 pub loop-preserved : goal.loop-preserved
@@ -61,47 +68,35 @@ loop-preserved g c =
     let made = c.make_room_within.new.self in
     let catalog = c.enter.new.self in
     let block = c.refill.new.self.block.items in
-    let text = c.block-in-loop.result.now in
-    let load : Load = record { lines = c.saturating_add.result; bytes = length c.block.result.now } in
+    let text = c.block.result.now in
+    let load : Load = record { lines = c.lines-lines.result; bytes = length c.block-bytes.result.now } in
     let same = c.in_ok-make_room_within.ensures in
     let fits : c.in_ok-make_room_within.field-0 ≡ true = grind (arith, nat_tests, c.if-not-branch-2.false) in
-    let ok = c.refill.new.self.block.ok in
-    let small = c.refill.new.self.block.small in
-    let short : length block < 2 ^ 64 = omega (arith, ok, small) in
     let few : length (lines_in text) ≤ load.lines
     = omega (
       arith,
-      lines-most block c.newlines-newlines.result c.newlines-newlines.ensures short,
-      c.saturating_add.ensures,
-      ap (λ block. length (lines_in block)) c.block-in-loop.ensures,
+      c.lines-lines.ensures,
+      ap (λ block. length (lines_in block)) c.block.ensures,
     ) in
-    let many : length c.in_ok-places.places.items ≡ length (lines_in text)
-    = sym (length-map c.in_ok-places.places.items (slice_get catalog.texts))
-    ∙ ap length c.in_ok-places.ensures.places ∙ length-map (lines_in text) Some in
     let more : c.in_ok-taken.taken.lines ≡ now.taken.lines + length (lines_in block)
-    = omega (
-      arith,
-      c.in_ok-taken.ensures.more.0,
-      c.len.ensures,
-      c.in_ok-places.places.ok.0,
-      many,
-      ap (λ block. length (lines_in block)) c.block-in-loop.ensures,
-    ) in
+    = omega (arith, c.in_ok-taken.ensures.more.0, c.lines-lines.ensures) in
     let known-many : c.len-known.result ≡ length now.catalog.texts
     = c.len-known.ensures ∙ ap length c.make_room_within.ensures.same in
     let entered : catalog.texts ≡ with_new_lines now.catalog.texts (lines_in block)
-    = c.in_ok-places.ensures.lines
+    = c.in_ok-enter.ensures.lines
     ∙ ap₂ (λ texts block. with_new_lines texts (lines_in block)) c.make_room_within.ensures.same
-    c.block-in-loop.ensures in (
-      c.in_ok-places.ensures.rest,
+    c.block.ensures in (
+      c.in_ok-enter.ensures.rest,
       underway-more known (rem now.reader) (rem c.refill.new.reader) (con c.args.writer.now)
           (con now.writer) (con c.write_from.new.writer) now.taken.lines c.in_ok-taken.taken.lines
           c.len-known.result now.catalog.texts catalog.texts now.source.rest.items
           c.refill.new.self.rest.items block c.in_ok-refill.field-0 now.invariant.1
-          c.in_ok-refill.ensures more known-many entered c.in_ok-write_from.ensures,
+          c.in_ok-refill.ensures.cut more known-many entered c.in_ok-write_from.ensures,
       kept-more c.args.plan.limit c.in_ok-taken.taken.lines made catalog load text
           (subst (TellsWhetherFits c.args.plan.limit made load) fits same.fits) few
-          (ap length (c.block.ensures ∙ sym c.block-in-loop.ensures)) c.in_ok-places.ensures.lines
-          c.in_ok-places.ensures.map,
+          (ap length (c.block-bytes.ensures ∙ sym c.block.ensures)) c.in_ok-enter.ensures.lines
+          c.in_ok-enter.ensures.map,
       c.in_ok-taken.ensures.more.1 ∙ now.invariant.3,
+      c.in_ok-refill.ensures.rest,
+      c.refill.ensures.room ∙ now.invariant.5,
     )

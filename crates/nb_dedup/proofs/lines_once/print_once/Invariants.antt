@@ -1,6 +1,7 @@
-use Rattle.std.proofs.Common.{◌≡◌, false}
+use Rattle.std.proofs.Common.{◌≡◌, false, length}
 use Rattle.nb_texts.specs.Catalogs.{IsAtRest}
-use Rattle.nb_texts.specs.Memory.{KeepsTo}
+use Rattle.nb_texts.specs.Memory.{KeepsTo, ahead_under}
+use Rattle.nb_texts.specs.Sources.{IsInOneLine}
 use Rattle.nb_dedup.proofs.OnceLemmas.{IsUnderway}
 use Rattle.nb_dedup.proofs.lines_once.print_once.Given as goal
 
@@ -12,3 +13,5 @@ invariant-loop g l =
     l.source.rest.items
     × KeepsTo l.fn.plan.limit l.taken.lines l.catalog
     × (l.taken.is_whole ≡ false)
+    × IsInOneLine l.source.rest.items
+    × (length l.source.room.items ≡ ahead_under l.fn.plan.limit)

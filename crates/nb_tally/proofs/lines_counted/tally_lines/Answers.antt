@@ -1,16 +1,17 @@
-use Rattle.std.proofs.Common.{◌≡◌, ◌∙◌, ◌+◌, ◌++◌, ◌<◌, ◌≤◌, ◌^◌, List, ap, arith, false, length, refl, subst, sym, true, ℕ}
+use Rattle.std.proofs.Common.{◌≡◌, ◌∙◌, ◌+◌, ◌++◌, ◌≤◌, List, ap, arith, false, length, refl, subst, sym, true, ℕ}
 use Rattle.std.proofs.lemmas.Bool.Decides.{nat_tests}
-use Rattle.std.specs.Bool.{OnFalse}
+use Rattle.std.specs.Bool.{OnFalse, OnTrue}
 use Rattle.std.specs.Prelude.{vec_items}
-use Rattle.nb_texts.proofs.Theorems.{kept-more, kept-none}
+use Rattle.nb_texts.proofs.Theorems.{kept-more, kept-none, none-in-line}
 use Rattle.nb_texts.specs.Catalogs.{IsAtRest}
 use Rattle.nb_texts.specs.Lines.{lines_in}
-use Rattle.nb_texts.specs.Memory.{KeepsTo, TellsWhetherFits}
+use Rattle.nb_texts.specs.Memory.{KeepsTo, TellsWhetherFits, ahead_under}
+use Rattle.nb_texts.specs.Sources.{IsBlock}
 use Rattle.nb_texts.specs.Tallies.{IsTally}
 use Rattle.nb_texts.specs.declared.catalog.Catalog.{Catalog}
 use Rattle.nb_texts.specs.declared.memory.Load.{Load}
 use Rattle.nb_tally.specs.Fields.{counted_of}
-use Rattle.nb_tally.proofs.CountedLemmas.{counted-few, limited, underway-begun, underway-first, underway-more, underway-same}
+use Rattle.nb_tally.proofs.CountedLemmas.{counted-many, limited, underway-begun, underway-first, underway-more, underway-same}
 use Rattle.nb_tally.proofs.lines_counted.tally_lines.Goals as goal
 
 pub loop-init : goal.loop-init
@@ -24,6 +25,8 @@ loop-init g c =
           c.new-tally.ensures.counts c.in_ok-source.ensures.rest,
       kept-none c.args.plan.limit tally.catalog,
       refl,
+      none-in-line c.in_ok-source.source.rest.items c.in_ok-source.ensures.rest,
+      c.in_ok-source.ensures.room ∙ c.ahead.ensures,
     )
 
 pub returns-then-not-branch-clause-first : goal.returns-then-not-branch-clause-first
@@ -59,15 +62,21 @@ returns-then-not-branch-2-clause-full g c = λ part.
     let now = c.loop in
     let block = c.refill.new.self.block.items in
     let counted = c.in_ok-block.block.now in
-    let load : Load = record { lines = c.saturating_add.result; bytes = length counted } in
+    let load : Load = record { lines = c.lines-lines.result; bytes = length counted } in
     let catalog = c.make_room_within.new.self.catalog in
     let stopped : c.in_ok-make_room_within.field-0 ≡ false = grind (arith, nat_tests, c.if-not-branch-2.true) in
+    let some : c.in_ok-refill.field-0 ≡ true = grind (arith, nat_tests, c.if-not-branch.false) in
+    let one : IsBlock (ahead_under c.args.plan.limit) block
+    = subst (λ ahead. IsBlock ahead block) now.invariant.5
+    (subst (λ some. OnTrue some (IsBlock (length now.source.room.items) block)) some
+    c.in_ok-refill.ensures.block) in
     let are : lines_in counted ≡ counted_of c.args.column (lines_in block)
     = c.in_ok-block.ensures ∙ ap (λ block. counted_of c.args.column (lines_in block)) c.block.ensures in
     limited c.args.column c.args.plan.limit (rem c.args.reader.now) (rem now.reader) (rem c.refill.new.reader)
     now.taken.lines now.tally.catalog.texts now.tally.counts.items now.source.rest.items
     c.refill.new.self.rest.items block counted c.in_ok-refill.field-0 load catalog now.invariant.1
-    c.in_ok-refill.ensures are (omega (arith, c.saturating_add.ensures, c.newlines-newlines.ensures)) refl
+    c.in_ok-refill.ensures.cut one are
+    (omega (arith, c.lines-lines.ensures, ap length are, counted-many c.args.column (lines_in block))) refl
     (subst (TellsWhetherFits c.args.plan.limit catalog load) stopped c.in_ok-make_room_within.ensures.fits)
 
 pub loop-preserved : goal.loop-preserved
@@ -79,36 +88,36 @@ loop-preserved g c =
     let tally = c.enter.new.self in
     let block = c.refill.new.self.block.items in
     let counted = c.in_ok-block.block.now in
-    let load : Load = record { lines = c.saturating_add.result; bytes = length counted } in
+    let load : Load = record { lines = c.lines-lines.result; bytes = length counted } in
     let same = c.in_ok-make_room_within.ensures in
     let fits : c.in_ok-make_room_within.field-0 ≡ true = grind (arith, nat_tests, c.if-not-branch-2.false) in
     let are : lines_in counted ≡ counted_of c.args.column (lines_in block)
     = c.in_ok-block.ensures ∙ ap (λ block. counted_of c.args.column (lines_in block)) c.block.ensures in
-    let ok = c.refill.new.self.block.ok in
-    let small = c.refill.new.self.block.small in
-    let short : length block < 2 ^ 64 = omega (arith, ok, small) in
     let few : length (lines_in counted) ≤ load.lines
+    = omega (arith, c.lines-lines.ensures, ap length are, counted-many c.args.column (lines_in block)) in
+    let more : c.in_ok-taken.taken.lines ≡ now.taken.lines + length (counted_of c.args.column (lines_in block))
     = omega (
       arith,
-      counted-few c.args.column block counted c.newlines-newlines.result are c.newlines-newlines.ensures short,
-      c.saturating_add.ensures,
+      c.in_ok-taken.ensures.more.0,
+      c.lines-lines.ensures,
+      counted-many c.args.column (lines_in block),
     ) in
-    let more : c.in_ok-taken.taken.lines ≡ now.taken.lines + length (counted_of c.args.column (lines_in block))
-    = omega (arith, c.in_ok-taken.ensures.more.0, c.in_ok-lines.ensures.lines, ap length are) in
     let told : (lines : List (List ℕ)) → IsTally lines made.catalog.texts made.counts.items
     → IsTally (lines ++ counted_of c.args.column (lines_in block)) tally.catalog.texts tally.counts.items
     = λ lines told. subst (λ more. IsTally (lines ++ more) tally.catalog.texts tally.counts.items) are
-    (c.in_ok-lines.ensures.tally lines told) in (
-      c.in_ok-lines.ensures.rest,
+    (c.in_ok-enter.ensures.tally lines told) in (
+      c.in_ok-enter.ensures.rest,
       underway-more c.args.column known (rem now.reader) (rem c.refill.new.reader) now.taken.lines
           c.in_ok-taken.taken.lines made.catalog.texts tally.catalog.texts made.counts.items tally.counts.items
           now.source.rest.items c.refill.new.self.rest.items block c.in_ok-refill.field-0
           (underway-same c.args.column known (rem now.reader) now.taken.lines now.tally.catalog.texts
           made.catalog.texts now.tally.counts.items made.counts.items now.source.rest.items same.texts
           (ap vec_items same.counts) now.invariant.1)
-          c.in_ok-refill.ensures more told,
+          c.in_ok-refill.ensures.cut more told,
       kept-more c.args.plan.limit c.in_ok-taken.taken.lines made.catalog tally.catalog load counted
           (subst (TellsWhetherFits c.args.plan.limit made.catalog load) fits same.fits) few refl
-          c.in_ok-lines.ensures.texts c.in_ok-lines.ensures.map,
+          c.in_ok-enter.ensures.texts c.in_ok-enter.ensures.map,
       c.in_ok-taken.ensures.more.1 ∙ now.invariant.3,
+      c.in_ok-refill.ensures.rest,
+      c.refill.ensures.room ∙ now.invariant.5,
     )

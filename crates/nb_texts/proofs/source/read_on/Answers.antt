@@ -1,11 +1,15 @@
-use Rattle.std.proofs.Common.{◌≡◌, ◌∙◌, ◌+◌, [], ◌∷◌, ◌++◌, ap, ap₂, append_assoc, drop, sym, take}
-use Rattle.std.proofs.lemmas.Bool.{eqb-true}
-use Rattle.std.proofs.lemmas.List.{take-append-drop, take_more, take_rest}
+use Rattle.std.proofs.Common.{◌≡◌, ◌∙◌, ◌+◌, [], ◌∷◌, ◌++◌, ap, ap₂, arith, drop, subst, sym, take}
+use Rattle.std.proofs.lemmas.Bool.{eq-eqb, eqb-true}
+use Rattle.std.proofs.lemmas.List.{length-take, take-append-drop, take_more, take_rest}
+use Rattle.std.specs.Io.KnownBytes.{Consumes}
 use Rattle.std.specs.Prelude.{slice_index}
+use Rattle.nb_texts.proofs.SourceLemmas.{one-behind}
+use Rattle.nb_texts.specs.Sources.{IsInOneLine}
 use Rattle.nb_texts.proofs.source.read_on.Goals as goal
 
-pub returns : goal.returns
-returns g c =
+pub returns-clause-taken : goal.returns-clause-taken
+returns-clause-taken g c =
+    let rem = g.I.Read.remaining in
     let bytes = take c.in-Some.count c.read_some.new.room in
     let last = c.in-Some-memrchr.last in
     let found = c.in-Some-memrchr.ensures in
@@ -19,15 +23,22 @@ returns g c =
     let newline : take (last + 1) bytes ≡ take last bytes ++ 10 ∷ []
     = take_more bytes last 0 found.0.high
     ∙ ap (λ byte. take last bytes ++ byte ∷ []) (eqb-true (slice_index bytes last) 10 found.1) in
+    let whole : bytes ≡ take (last + 1) bytes ++ c.extend_from_slice-3.new.self.items
+    = sym (take-append-drop (last + 1) bytes) ∙ ap (λ rest. take (last + 1) bytes ++ rest) (sym behind) in
     record {
-      bytes = bytes;
-      took = some.1;
-      kept =
-          ap₂ (λ block rest. block ++ rest) front behind
-          ∙ append_assoc block (take (last + 1) bytes) (drop (last + 1) bytes)
-          ∙ ap (λ bytes. block ++ bytes) (take-append-drop (last + 1) bytes);
+      part = take (last + 1) bytes;
+      took = subst (Consumes (rem c.args.reader.now) (rem c.read_some.new.reader)) whole some.1;
+      kept = front;
+      few =
+          omega (
+            arith,
+            length-take (last + 1) bytes,
+            length-take c.in-Some.count c.read_some.new.room,
+            c.in_ok-count.ensures.room,
+          );
       ends = (
-        block ++ take last bytes,
-        front ∙ ap (λ bytes. block ++ bytes) newline ∙ sym (append_assoc block (take last bytes) (10 ∷ [])),
+        (take last bytes, newline),
+        subst IsInOneLine (sym behind) (one-behind bytes (last + 1)
+            (λ k low less is. found.0.after k low less (eq-eqb (slice_index bytes k) 10 is))),
       );
     }

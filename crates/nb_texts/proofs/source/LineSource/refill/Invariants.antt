@@ -1,4 +1,5 @@
-use Rattle.std.proofs.Common.{◌≡◌, []}
+use Rattle.std.proofs.Common.{◌≡◌, [], length}
+use Rattle.nb_texts.specs.Sources.{IsInOneLine}
 use Rattle.nb_texts.proofs.SourceLemmas.{HasRead}
 use Rattle.nb_texts.proofs.source.LineSource.refill.Given as goal
 
@@ -7,3 +8,5 @@ invariant-loop g l =
     (l.self.rest.items ≡ [])
     × HasRead (g.I.Read.remaining l.fn.reader) (g.I.Read.remaining l.reader) l.fn.self.rest.items
     l.self.block.items
+    × IsInOneLine l.self.block.items
+    × (length l.self.room.items ≡ length l.fn.self.room.items)
