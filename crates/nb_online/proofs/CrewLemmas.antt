@@ -1,94 +1,260 @@
--- The handle has all seats of its set again after the calls that take it.
-use Rattle.std.proofs.Common.{◌≡◌, ◌∙◌, ◌+◌, ℕ, List, [], ◌∷◌, ◌++◌, All, Some, ap, arith, inl, inr, length, length-append, map, refl, subst, sym}
-use Rattle.std.proofs.lemmas.List.{length-map}
-use Rattle.std.proofs.lemmas.List.Elements.{All-head, All-map, All-pop, All-same, All-tail, length_all_zip}
-use Rattle.std.proofs.lemmas.List.FromFn.{length-map-range_with_len, length-range_with_len}
-use Rattle.nb_core.specs.Plans.{IsPlan, Plan}
-use Rattle.nb_set.specs.Handles.{HandleOf, IsSameSet, IsWhole, all_seats, handle_on, seats_of}
-use Rattle.nb_set.specs.Renewing.{HasOnlyAsked, HasRenewed, IsKept}
-use Rattle.nb_set.specs.Settling.{HasCaughtUp, HaveSettled}
-use Rattle.nb_set.specs.Sets.{IsMadeFor, new_seat, new_seats, seat_number, shape_of}
-use Rattle.nb_online.specs.Crews.{AreAll}
+-- The workers and their guests, who settle.
+use Rattle.std.proofs.Common.{◌≡◌, ◌∙◌, ◌++◌, ◌%◌, ◌^◌, ◌<◌, ℕ, zero, suc, List, [], ◌∷◌, All, Some, ap, arith, drop, get_or, length, map, refl, slice_get, slice_set, subst, sym, take}
+use Rattle.std.specs.Prelude.{MatchOption, None, Option, option_map, unwrap_or}
+use Rattle.std.proofs.Math.Seq.{drop-length}
+use Rattle.std.proofs.lemmas.List.{append-nil, length-map, take_all}
+use Rattle.std.proofs.lemmas.List.Elements.{All-cons, All-head, All-map, All-tail}
+use Rattle.std.proofs.lemmas.Option.{slice_get-map, slice_get_within}
+use Rattle.nb_core.specs.Log.{Entry}
+use Rattle.nb_lasting.specs.Guests.{AreAllGuests, CallsAddUp, GuestHasCalled, GuestOf, GuestsHaveSettled, HaveCome, SharedOf, knowing}
+use Rattle.nb_lasting.specs.Shared.{IsOfGuest}
+use Rattle.nb_lasting.specs.declared.faults.GrowFault.{GrowFault}
+use Rattle.nb_online.specs.Working.{AreAllOf, AreSameGuests, HasDoneAll, HasDoneItsPart, HasRunOutOfRoom, HaveCounted, HaveDoneAll, WorkersHaveSettled, call_made, guests_of, beside_guest, workers_of}
+use Rattle.nb_online.specs.declared.worker.Part.{Part}
+use Rattle.nb_online.specs.declared.worker.Worker.{Worker}
 
--- ---- one handle
+-- ---- lists
 
--- the set has as many seats as the one that it was
-same-many : (before after : HandleOf) → IsSameSet before after
-    → (shape_of before.set).seats ≡ (shape_of after.set).seats
-same-many before after same = ap (λ set. (shape_of set).seats) (sym same)
+some-same : {X : Type 0} (x y : X) → ◌≡◌ {A = Option X} (Some x) (Some y) → x ≡ y
+some-same x y is = ap (λ o. unwrap_or o x) is
 
--- a new set's handle has all its seats
-pub opened-whole :
-    (p : Plan) (handle : HandleOf) → IsMadeFor handle.set p
-    → seats_of handle ≡ new_seats handle.set p.seats → IsWhole handle
-opened-whole p handle made seats =
-    ap length seats ∙ length-map-range_with_len (new_seat handle.set) 0 p.seats
-    ∙ ap (λ q. q.seats) (sym made.shape)
+there : {X : Type 0} (xs : List X) (i : ℕ) → i < length xs → (x : X) × (slice_get xs i ≡ Some x)
+there [] i below = absurd (omega (arith, below))
+there (x ∷ xs) zero below = (x, refl)
+there (x ∷ xs) (suc i) below = there xs i (omega (arith, below))
 
--- where its seats are settled
-pub settled-whole :
-    (before after : HandleOf) (size : ℕ) → IsSameSet before after
-    → HaveSettled before.set (seats_of before) (seats_of after) size → IsWhole before → IsWhole after
-settled-whole before after size same settled whole =
-    sym (length_all_zip (HasCaughtUp before.set _) (seats_of before) (seats_of after) settled.each)
-    ∙ whole ∙ same-many before after same
+guest-at : (workers : List Worker) (i : ℕ) (worker : Worker) → slice_get workers i ≡ Some worker
+    → slice_get (guests_of workers) i ≡ Some worker.caller.guest
+guest-at workers i worker at =
+    slice_get-map (λ (w : Worker). w.caller.guest) workers i
+    ∙ ap (option_map (λ (w : Worker). w.caller.guest)) at
 
--- where a renewal is refused
-pub kept-whole : (before after : HandleOf) → IsKept before after → IsWhole before → IsWhole after
-kept-whole before after (inl is) whole = subst IsWhole (sym is) whole
-kept-whole before after (inr (same, asked)) whole =
-    sym (length_all_zip (λ old new. HasOnlyAsked before.set old new _) (seats_of before)
-    (seats_of after) asked) ∙ whole ∙ same-many before after same
+part-at : (workers : List Worker) (i : ℕ) (worker : Worker) → slice_get workers i ≡ Some worker
+    → slice_get (map beside_guest workers) i ≡ Some (beside_guest worker)
+part-at workers i worker at = slice_get-map beside_guest workers i ∙ ap (option_map beside_guest) at
 
--- and where the set is made anew
-pub renewed-whole : (p : Plan) (before after : HandleOf) → HasRenewed p before after → IsWhole after
-renewed-whole p before after renewed =
-    sym (length-map (seats_of after) seat_number) ∙ ap length renewed.begun.begun.numbered
-    ∙ length-range_with_len 0 (shape_of after.set).seats
+worker-at : (workers : List Worker) (i : ℕ) (guest : GuestOf)
+    → slice_get (guests_of workers) i ≡ Some guest
+    → (worker : Worker) × (slice_get workers i ≡ Some worker) × (worker.caller.guest ≡ guest)
+worker-at [] i guest at = absurd (omega (arith, slice_get_within [] i guest at))
+worker-at (w ∷ workers) zero guest at = (w, refl, some-same w.caller.guest guest at)
+worker-at (w ∷ workers) (suc i) guest at = worker-at workers i guest at
 
--- ---- the handles that it is split into
+pub many-guests : (workers : List Worker) → length (guests_of workers) ≡ length workers
+many-guests workers = length-map workers (λ (w : Worker). w.caller.guest)
 
-pub split-all :
-    (handle : HandleOf) (handles : List HandleOf) → IsPlan (shape_of handle.set) → IsWhole handle
-    → handles ≡ map (handle_on handle.set) (seats_of handle) → AreAll handles
-split-all handle handles plan whole are =
-    let set = handle.set in
-    let seats = seats_of handle in
-    let these = map (handle_on set) seats in
+-- a slice of a whole vector
+pub whole-slice :
+    {X : Type 0} (new items : List X) (len : ℕ) → length new ≡ length items → len ≡ length items
+    → take len (new ++ drop (length new) items) ≡ new
+whole-slice new items len same is =
+    ap (λ n. take len (new ++ drop n items)) same
+    ∙ (ap (λ l. take len (new ++ l)) (drop-length items)
+    ∙ (ap (take len) (append-nil new) ∙ take_all len new (omega (arith, same, is))))
+
+pub guests-set :
+    (workers : List Worker) (k : ℕ) (new d : Worker) → k < length workers
+    → new.caller.guest ≡ (get_or workers k d).caller.guest
+    → guests_of (slice_set workers k new) ≡ guests_of workers
+guests-set [] k new d below same = absurd (omega (arith, below))
+guests-set (w ∷ workers) zero new d below same = ap (λ g. g ∷ guests_of workers) same
+guests-set (w ∷ workers) (suc k) new d below same =
+    ap (λ l. w.caller.guest ∷ l) (guests-set workers k new d (omega (arith, below)) same)
+
+pub kept-all :
+    (shared : SharedOf) (before after : List Worker) → AreAllOf shared before
+    → guests_of after ≡ guests_of before → AreAllOf shared after
+kept-all shared before after all same = record {
+  of = subst (All (λ (guest : GuestOf). guest.of ≡ shared.id)) (sym same) all.of;
+  all = subst (AreAllGuests shared) (sym same) all.all;
+}
+
+-- ---- each worker keeps its guest
+
+part-same :
+    (before after : Worker) (stopped : Option GrowFault)
+    → MatchOption stopped (HasDoneAll before after) (HasRunOutOfRoom before after)
+    → (after.caller.guest.of ≡ before.caller.guest.of)
+    × (after.caller.guest.number ≡ before.caller.guest.number)
+part-same before after None done = (done.made.called.of, done.made.called.number)
+part-same before after (Some fault) out = (
+  out.refused.refused.unmade.of ∙ out.made.called.of,
+  out.refused.refused.unmade.number ∙ out.made.called.number,
+)
+
+pub same-guest :
+    (before after : Worker) → HasDoneItsPart before after
+    → (after.caller.guest.of ≡ before.caller.guest.of)
+    × (after.caller.guest.number ≡ before.caller.guest.number)
+same-guest before after part = part-same before after after.stopped part
+
+all-of :
+    (shared : SharedOf) (before after : List Worker) → length after ≡ length before
+    → ((i : ℕ) (worker worker' : Worker) → slice_get before i ≡ Some worker
+    → slice_get after i ≡ Some worker' → worker'.caller.guest.of ≡ worker.caller.guest.of)
+    → All (λ guest. guest.of ≡ shared.id) (guests_of before)
+    → All (λ guest. guest.of ≡ shared.id) (guests_of after)
+all-of shared [] [] count each of = of
+all-of shared [] (y ∷ after) count each of = absurd (omega (arith, count))
+all-of shared (x ∷ before) [] count each of = absurd (omega (arith, count))
+all-of shared (x ∷ before) (y ∷ after) count each of =
+    All-cons (λ (guest : GuestOf). guest.of ≡ shared.id) y.caller.guest (guests_of after)
+    (each 0 x y refl refl
+    ∙ All-head (λ (guest : GuestOf). guest.of ≡ shared.id) x.caller.guest (guests_of before) of)
+    (all-of shared before after (omega (arith, count)) (λ i w w' at at'. each (suc i) w w' at at')
+    (All-tail (λ (guest : GuestOf). guest.of ≡ shared.id) x.caller.guest (guests_of before) of))
+
+pub still-all :
+    (shared : SharedOf) (before after : List Worker) → AreAllOf shared before
+    → AreSameGuests before after → AreAllOf shared after
+still-all shared before after all same = record {
+  of = all-of shared before after same.count (λ i w w' at at'. (same.each i w w' at at').0) all.of;
+  all = record {
+    count = many-guests after ∙ same.count ∙ sym (many-guests before) ∙ all.all.count;
+    numbered = λ i guest at.
+        let now = worker-at after i guest at in
+        let was = there before i (omega (arith, slice_get_within after i now.0 now.1, same.count)) in
+        sym (ap (λ (g : GuestOf). g.number) now.2)
+        ∙ (same.each i was.0 now.0 was.1 now.1).1
+        ∙ all.all.numbered i was.0.caller.guest (guest-at before i was.0 was.1);
+  };
+}
+
+-- at the beginning
+pub all-come :
+    (n : ℕ) (shared : SharedOf) (guests : List GuestOf) (workers : List Worker)
+    → HaveCome n shared guests → guests_of workers ≡ guests → AreAllOf shared workers
+all-come n shared guests workers come is = record {
+  of = subst (All (λ (guest : GuestOf). guest.of ≡ shared.id)) (sym is) come.of;
+  all = record {
+    count = ap length is ∙ (come.count ∙ sym come.many);
+    numbered = λ i guest at.
+        ap (λ (g : GuestOf). g.number) (come.each i guest (ap (λ l. slice_get l i) (sym is) ∙ at));
+  };
+}
+
+-- ---- workers are parted and joined
+
+pub guests-joined :
+    (guests : List GuestOf) (parts : List Part) → length guests ≡ length parts
+    → guests_of (workers_of guests parts) ≡ guests
+guests-joined [] parts many = refl
+guests-joined (guest ∷ guests) [] many = absurd (omega (arith, many))
+guests-joined (guest ∷ guests) (part ∷ parts) many =
+    ap (λ l. guest ∷ l) (guests-joined guests parts (omega (arith, many)))
+
+pub parts-joined :
+    (guests : List GuestOf) (parts : List Part) → length guests ≡ length parts
+    → map beside_guest (workers_of guests parts) ≡ parts
+parts-joined [] [] many = refl
+parts-joined [] (part ∷ parts) many = absurd (omega (arith, many))
+parts-joined (guest ∷ guests) [] many = absurd (omega (arith, many))
+parts-joined (guest ∷ guests) (part ∷ parts) many =
+    ap (λ l. part ∷ l) (parts-joined guests parts (omega (arith, many)))
+
+-- ---- all guests settle
+
+numbered-still :
+    (whole : List Entry) (guests : List GuestOf)
+    → ((i : ℕ) (guest : GuestOf) → slice_get guests i ≡ Some guest → guest.number ≡ i)
+    → (i : ℕ) (guest : GuestOf) → slice_get (map (knowing whole) guests) i ≡ Some guest
+    → guest.number ≡ i
+numbered-still whole guests numbered i guest at =
+    let old = there guests i (omega (arith, slice_get_within (map (knowing whole) guests) i guest at, length-map guests (knowing whole))) in
+    let is : knowing whole old.0 ≡ guest =
+    some-same (knowing whole old.0) guest
+    (sym (slice_get-map (knowing whole) guests i ∙ ap (option_map (knowing whole)) old.1) ∙ at) in
+    sym (ap (λ (g : GuestOf). g.number) is) ∙ numbered i old.0 old.1
+
+pub settled-all :
+    (shared : SharedOf) (before after : List Worker) (online : ℕ) → AreAllOf shared before
+    → WorkersHaveSettled before after online → AreAllOf shared after
+settled-all shared before after online all settled =
+    let whole = settled.settled.whole in
+    let know = settled.settled.know in
     record {
-      set = set;
-      plan = plan;
-      one = All-same (λ handle. handle.set ≡ set) handles these are
-          (All-map (λ handle. handle.set ≡ set) (handle_on set) seats (λ k d lt. refl));
-      alone = All-same (λ handle. handle.reserve ≡ []) handles these are
-          (All-map (λ handle. handle.reserve ≡ []) (handle_on set) seats (λ k d lt. refl));
-      all = ap length are ∙ length-map seats (handle_on set) ∙ whole;
+      of = subst (All (λ (guest : GuestOf). guest.of ≡ shared.id)) (sym know)
+          (All-map (λ (guest : GuestOf). guest.of ≡ shared.id) (knowing whole) (guests_of before)
+          all.of);
+      all = record {
+        count = ap length know ∙ (length-map (guests_of before) (knowing whole) ∙ all.all.count);
+        numbered = λ i guest at.
+            numbered-still whole (guests_of before) all.all.numbered i guest
+            (ap (λ l. slice_get l i) (sym know) ∙ at);
+      };
     }
 
-alone-many :
-    (handles : List HandleOf) → All (λ handle. handle.reserve ≡ []) handles
-    → length (all_seats handles) ≡ length handles
-alone-many [] alone = refl
-alone-many (h ∷ handles) alone =
-    omega (
-      arith,
-      length-append (seats_of h) (all_seats handles),
-      ap length (All-head (λ handle. handle.reserve ≡ []) h handles alone),
-      alone-many handles (All-tail (λ handle. handle.reserve ≡ []) h handles alone),
-    )
+pub joined-settled :
+    (before : List Worker) (guests now : List GuestOf) (parts : List Part) (after : List Worker)
+    (online : ℕ) → guests ≡ guests_of before → parts ≡ map beside_guest before
+    → GuestsHaveSettled guests now online → after ≡ workers_of now parts
+    → WorkersHaveSettled before after online
+joined-settled before guests now parts after online were had settled are =
+    let many : length now ≡ length parts =
+    ap length settled.know
+    ∙ (length-map guests (knowing settled.whole)
+    ∙ (ap length were ∙ (many-guests before ∙ sym (ap length had ∙ length-map before beside_guest)))) in
+    record {
+      settled = subst (λ gs. GuestsHaveSettled gs (guests_of after) online) were
+          (subst (λ gs. GuestsHaveSettled guests gs online)
+          (sym (ap guests_of are ∙ guests-joined now parts many)) settled);
+      rest = ap (map beside_guest) are ∙ (parts-joined now parts many ∙ had);
+    }
 
--- the last of them has the seat that the others haven't
-pub last-many :
-    (handles others : List HandleOf) (last : HandleOf) → handles ≡ others ++ last ∷ []
-    → (are : AreAll handles)
-    → 1 + length last.reserve + length (all_seats others) ≡ (shape_of are.set).seats
-last-many handles others last is are =
-    let alone = All-pop (λ handle. handle.reserve ≡ []) handles others (Some last) is are.alone in
-    omega (
-      arith,
-      are.all,
-      ap length is,
-      length-append others (last ∷ []),
-      ap length alone.1,
-      alone-many others alone.0,
-    )
+-- ---- a count
+
+pub have-counted :
+    CallsAddUp → (before middle after : List Worker) (online : ℕ) → HaveDoneAll before middle
+    → length middle ≡ length before → WorkersHaveSettled middle after online
+    → HaveCounted before after online
+have-counted add_up before middle after online done count settled = record {
+  whole = whole;
+  replayed = settled.settled.replayed;
+  each = each;
+  count = many;
+  made = subst (λ k. All (IsOfGuest k) whole) (many-guests middle ∙ count) settled.settled.made;
+  keys = settled.settled.keys;
+}
+  where
+    whole : List Entry
+    whole = settled.settled.whole
+
+    many : length after ≡ length before
+    many =
+        sym (length-map after beside_guest) ∙ ap length settled.rest ∙ length-map middle beside_guest ∙ count
+
+    each : (i : ℕ) (worker worker' : Worker) → slice_get before i ≡ Some worker
+        → slice_get after i ≡ Some worker'
+        → HasDoneAll worker worker' × (worker'.caller.guest.log ≡ whole)
+    each i worker worker' at at' =
+        let was = there middle i (omega (arith, slice_get_within before i worker at, count)) in
+        let then = was.0 in
+        let all = done i worker then at was.1 in
+        let guest : knowing whole then.caller.guest ≡ worker'.caller.guest =
+        some-same (knowing whole then.caller.guest) worker'.caller.guest
+        (sym (slice_get-map (knowing whole) (guests_of middle) i
+        ∙ ap (option_map (knowing whole)) (guest-at middle i then was.1))
+        ∙ (ap (λ l. slice_get l i) (sym settled.settled.know) ∙ guest-at after i worker' at')) in
+        let part : beside_guest then ≡ beside_guest worker' =
+        some-same (beside_guest then) (beside_guest worker')
+        (sym (part-at middle i then was.1)
+        ∙ (ap (λ l. slice_get l i) (sym settled.rest) ∙ part-at after i worker' at')) in
+        let learnt : GuestHasCalled then.caller.guest worker'.caller.guest [] =
+        subst (λ (g : GuestOf). GuestHasCalled then.caller.guest g []) guest (record {
+          of = refl;
+          number = refl;
+          log = settled.settled.each i then.caller.guest (guest-at middle i then was.1);
+        }) in (
+          record {
+            made = record {
+              made = all.made.made;
+              each = all.made.each;
+              called = add_up worker.caller.guest then.caller.guest worker'.caller.guest
+                  (map call_made all.made.made) [] all.made.called learnt;
+              came = ap (λ (p : Part). p.came % 2 ^ 64) (sym part) ∙ all.made.came;
+              went = ap (λ (p : Part). p.went % 2 ^ 64) (sym part) ∙ all.made.went;
+            };
+            forgotten = ap (λ (p : Part). p.requests.items) (sym part) ∙ all.forgotten;
+          },
+          sym (ap (λ (g : GuestOf). g.log) guest),
+        )

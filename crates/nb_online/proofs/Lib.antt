@@ -1,4 +1,3 @@
 -- Lemmas.
 pub mod CrewLemmas
-pub mod RoomLemmas
 pub mod WorkLemmas

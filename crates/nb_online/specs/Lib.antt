@@ -1,5 +1,3 @@
 -- The definitions that the contracts cite.
-pub mod Crews
-pub mod Fullness
 pub mod Lines
 pub mod Working

@@ -1,57 +1,155 @@
--- What a worker has done of its part: which calls it has made, and what it has counted.
-use Rattle.std.specs.Prelude.{◌≡◌, ◌≤◌, ◌+◌, ◌%◌, ◌^◌, ℕ, Bool, false, List, Some, count_by, map, reverse, slice_get, slice_range}
-use Rattle.nb_set.specs.Log.{Add, Call, Contains, Remove}
-use Rattle.nb_set.specs.Sets.{HasLogged, HasNoRoom, SeatOf, SetOf}
-use Rattle.nb_online.specs.declared.part.Action.{Action}
-use Rattle.nb_online.specs.declared.part.Action.TheVariants.{Come, Go}
-use Rattle.nb_online.specs.declared.part.Counts.{Counts}
-use Rattle.nb_online.specs.declared.part.Part.{Part}
-use Rattle.nb_online.specs.declared.part.Request.{Request}
+-- What a worker does: which calls it makes, and what it counts.
+use Rattle.std.specs.FinMap as numbers
+use Rattle.std.specs.Prelude.{◌≡◌, ◌+◌, ◌%◌, ◌^◌, ◌∷◌, ℕ, All, Bool, false, List, [], Some, MatchOption, count_by, is_none, is_some, length, map, reverse, slice_get, take}
+use Rattle.nb_core.specs.Log.{Entry, IsReplayed, map_of_log}
+use Rattle.nb_core.specs.declared.calls.Call.{Call}
+use Rattle.nb_core.specs.declared.calls.Reply.{Reply}
+use Rattle.nb_lasting.specs.Guests.{AreAllGuests, GuestHasCalled, GuestIsRefused, GuestOf, GuestsHaveSettled, SharedOf}
+use Rattle.nb_lasting.specs.Lasting.{as_write_fault}
+use Rattle.nb_lasting.specs.Shared.{IsOfGuest}
+use Rattle.nb_lasting.specs.declared.faults.GrowFault.{GrowFault}
+use Rattle.nb_map.specs.NamedCalls.{put_if_absent_of, remove_of}
+use Rattle.nb_online.specs.declared.worker.Action.{Action}
+use Rattle.nb_online.specs.declared.worker.Action.TheVariants.{Come, Go}
+use Rattle.nb_online.specs.declared.worker.Caller.{Caller}
+use Rattle.nb_online.specs.declared.worker.Part.{Part}
+use Rattle.nb_online.specs.declared.worker.Request.{Request}
+use Rattle.nb_online.specs.declared.worker.Worker.{Worker}
 
--- the call of the set that a request asks for
-abbrev pub call_of_action : ℕ → Action → Call
-call_of_action key Come = Add key
-call_of_action key Go = Remove key
+-- the call of the map that a request asks for; a key that is online has the number 1
+abbrev pub call_at : ℕ → Action → Call
+call_at key Come = put_if_absent_of key 1
+call_at key Go = remove_of key
 
-abbrev pub call_of_request : Request → Call
-call_of_request request = call_of_action request.key request.action
+-- a request's call, with its reply
+abbrev pub call_made : Request × Reply → Call × Reply
+call_made (request, reply) = (call_at request.key request.action, reply)
 
--- whether a key came by the call, or went by it: its reply says so
-abbrev pub has_come : Call × Bool → Bool
-has_come (Add key, reply) = reply
-has_come (Remove key, reply) = false
-has_come (Contains key, reply) = false
+-- whether a key came, or went, by a request's call: its reply says whether the key was there
+abbrev pub came_by : Action → Reply → Bool
+came_by Come reply = is_none reply.before
+came_by Go reply = false
 
-abbrev pub has_gone : Call × Bool → Bool
-has_gone (Add key, reply) = false
-has_gone (Remove key, reply) = reply
-has_gone (Contains key, reply) = false
+abbrev pub went_by : Action → Reply → Bool
+went_by Come reply = false
+went_by Go reply = is_some reply.before
 
--- The counts have grown by how many keys came, and how many went, by these calls, modulo 2^64.
-pub record AreCounted (made : List (Call × Bool)) (before after : Counts) : Type 0 where
+abbrev pub has_come : Request × Reply → Bool
+has_come (request, reply) = came_by request.action reply
+
+abbrev pub has_gone : Request × Reply → Bool
+has_gone (request, reply) = went_by request.action reply
+
+-- The calls of these requests are made, each once, in their order: a log has its newest call first.
+-- They are all that the guest has called. The counts have grown by how many keys came, and how many
+-- went, by the replies, modulo 2^64.
+pub record HasDoneRequests (requests : List Request) (before after : Caller) : Type 0 where
+  pub made : List (Request × Reply)
+  pub each : map (λ one. one.0) made ≡ reverse requests
+  pub called : GuestHasCalled before.guest after.guest (map call_made made)
   pub came : after.came % 2 ^ 64 ≡ (before.came + count_by has_come made) % 2 ^ 64
   pub went : after.went % 2 ^ 64 ≡ (before.went + count_by has_gone made) % 2 ^ 64
 
--- The worker has done the requests from the first one that wasn't done, up to the first one that
--- still isn't. Of what is new in its seat's log, just the calls of these requests are the seat's,
--- each once and with its reply. A log has its newest call first, so they were made in the order of
--- the requests.
-pub record HasDoneRequests (part part' : Part) (before after : SeatOf) : Type 0 where
-  pub requests : part'.requests ≡ part.requests
-  pub on : part.done ≤ part'.done
-  pub made : List (Call × Bool)
-  pub calls :
-      map (λ call. call.0) made
-      ≡ reverse (map call_of_request (slice_range part.requests.items part.done part'.done))
-  pub logged : HasLogged before after made
-  pub counted : AreCounted made part.counts part'.counts
+-- The worker has done all that it was to do, and has forgotten it.
+pub record HasDoneAll (before after : Worker) : Type 0 where
+  pub made : HasDoneRequests before.requests.items before.caller after.caller
+  pub forgotten : after.requests.items ≡ []
 
--- It has done requests in this way up to one by which a key comes, and for this key the set has no
--- room.
-pub record HasRunOutOfRoom (set : SetOf) (part part' : Part) (before after : SeatOf) : Type 0 where
-  pub between : SeatOf
-  pub done : HasDoneRequests part part' before between
+-- The map has refused this key, which was to come: the call isn't made, and nothing is counted.
+pub record IsTurnedAway (key : ℕ) (before after : Caller) (fault : GrowFault) : Type 0 where
+  pub refused :
+      GuestIsRefused (put_if_absent_of key 1) before.guest after.guest (as_write_fault fault)
+  pub came : after.came ≡ before.came
+  pub went : after.went ≡ before.went
+
+-- The worker has done what came before a key that was to come, which the map refused.
+pub record HasRunOutOfRoom (before after : Worker) (fault : GrowFault) : Type 0 where
+  pub done : ℕ
+  pub between : Caller
+  pub made : HasDoneRequests (take done before.requests.items) before.caller between
   pub key : ℕ
-  pub next :
-      slice_get part'.requests.items part'.done ≡ Some (record { key = key; action = Come })
-  pub full : HasNoRoom set key between after
+  pub next : slice_get before.requests.items done ≡ Some (record { key = key; action = Come })
+  pub refused : IsTurnedAway key between after.caller fault
+
+-- either
+abbrev pub HasDoneItsPart : (before after : Worker) → Type 0
+HasDoneItsPart before after =
+    MatchOption after.stopped (HasDoneAll before after) (HasRunOutOfRoom before after)
+
+-- each worker has done all that it was to do
+abbrev pub HaveDoneAll : (before after : List Worker) → Type 0
+HaveDoneAll before after =
+    (i : ℕ) (worker worker' : Worker) → slice_get before i ≡ Some worker
+    → slice_get after i ≡ Some worker' → HasDoneAll worker worker'
+
+-- one of them has run out of room
+pub record OneHasRunOutOfRoom (before after : List Worker) (fault : GrowFault) : Type 0 where
+  pub place : ℕ
+  pub worker : Worker
+  pub worker' : Worker
+  pub was : slice_get before place ≡ Some worker
+  pub is : slice_get after place ≡ Some worker'
+  pub out : HasRunOutOfRoom worker worker' fault
+
+-- ---- a worker and its guest
+
+-- the worker without its guest, and with one
+abbrev pub beside_guest : Worker → Part
+beside_guest worker = record {
+  came = worker.caller.came;
+  went = worker.caller.went;
+  requests = worker.requests;
+  stopped = worker.stopped;
+}
+
+abbrev pub with_guest : GuestOf → Part → Worker
+with_guest guest part = record {
+  caller = record { guest = guest; came = part.came; went = part.went };
+  requests = part.requests;
+  stopped = part.stopped;
+}
+
+abbrev pub guests_of : List Worker → List GuestOf
+guests_of workers = map (λ worker. worker.caller.guest) workers
+
+-- the workers that have these guests
+abbrev pub workers_of : List GuestOf → List Part → List Worker
+workers_of [] parts = []
+workers_of (guest ∷ guests) [] = []
+workers_of (guest ∷ guests) (part ∷ parts) = with_guest guest part ∷ workers_of guests parts
+
+-- these are all workers of the map, each of which has the guest with its number
+pub record AreAllOf (shared : SharedOf) (workers : List Worker) : Type 0 where
+  pub of : All (λ guest. guest.of ≡ shared.id) (guests_of workers)
+  pub all : AreAllGuests shared (guests_of workers)
+
+-- each worker has the guest that it had, whatever that has called
+pub record AreSameGuests (before after : List Worker) : Type 0 where
+  pub count : length after ≡ length before
+  pub each :
+      (i : ℕ) (worker worker' : Worker) → slice_get before i ≡ Some worker
+      → slice_get after i ≡ Some worker'
+      → (worker'.caller.guest.of ≡ worker.caller.guest.of)
+      × (worker'.caller.guest.number ≡ worker.caller.guest.number)
+
+-- ---- a count
+
+-- All guests have settled. The workers know the one log of all calls, and are else as before.
+pub record WorkersHaveSettled (before after : List Worker) (online : ℕ) : Type 0 where
+  pub settled : GuestsHaveSettled (guests_of before) (guests_of after) online
+  pub rest : map beside_guest after ≡ map beside_guest before
+
+-- Each worker has done all that it was to do, and the keys are counted then. There is one log of all
+-- calls until then, which each worker knows: in it are just the calls of its requests after what it
+-- knew before, each once and in their order. The log is replayed, and has the workers' calls alone.
+-- The map that it leaves has so many keys.
+pub record HaveCounted (before after : List Worker) (online : ℕ) : Type 0 where
+  pub whole : List Entry
+  pub replayed : IsReplayed whole
+  pub each :
+      (i : ℕ) (worker worker' : Worker) → slice_get before i ≡ Some worker
+      → slice_get after i ≡ Some worker'
+      → HasDoneAll worker worker' × (worker'.caller.guest.log ≡ whole)
+  pub count : length after ≡ length before
+  pub made : All (IsOfGuest (length before)) whole
+  pub keys : online ≡ length (numbers.entries (map_of_log whole))

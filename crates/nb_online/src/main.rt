@@ -1,23 +1,20 @@
 //! `nb_online` reads a stream that never ends, of keys that come online and go off, and says how many
 //! are online whenever the stream asks.
 //!
-//! It shows how a program lasts for ever with a set of a fixed size. In a set a removed key keeps its
-//! slot, so a set that runs for long enough has no slot left for a new key. Block after block all
-//! workers make the calls of its lines, each by a handle of its own, and are joined, as are the
-//! handles. Then the program has one handle with all seats: it settles the set where the stream asks
-//! for a count, and makes it anew before its table is full.
+//! It shows how a program lasts for ever with a map that makes itself anew: `nb_lasting`. Each worker
+//! owns a guest of it. Block after block all workers make the calls of its lines at the same time.
+//! Where the stream asks for a count, all guests settle: so it knows all calls.
 //!
 //! Each key is one worker's, so the stream's order holds for each key.
 #![tactic(auto)]
 
-pub(crate) mod following;
+pub(crate) mod crew;
 pub(crate) mod line;
 pub(crate) mod options;
-pub(crate) mod part;
-pub(crate) mod renewing;
 pub(crate) mod run;
 pub(crate) mod serve;
 pub(crate) mod stream;
+pub(crate) mod worker;
 
 use nb_lines::end_of;
 use std::process::ExitCode;

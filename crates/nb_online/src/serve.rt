@@ -1,7 +1,7 @@
 //! The program: its words, what it reads and what it prints.
 
-use crate::following::follow;
 use crate::options::{LINE, options_of};
+use crate::run::follow;
 use nb_lines::ProgramFault;
 use std::io;
 use std::io::Read;
@@ -16,5 +16,5 @@ where
     I: Read + Drop,
 {
     let options = options_of(rt.alloc(), &LINE.given(rt)?)?;
-    follow(rt, rt.alloc(), options.shape()?, reader, io::writer(rt))
+    follow(rt, rt.alloc(), options, reader, io::writer(rt))
 }

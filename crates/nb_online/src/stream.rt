@@ -8,10 +8,6 @@ use std::io::{BufRead, BufReader, ErrorKind, Read};
 /// How many bytes are read ahead at most, and how many a line with its newline has.
 const AHEAD: usize = 1 << 16;
 
-/// How many lines of a block name a key, at most: one that was waited for, and of those that were
-/// read ahead each has five bytes or more.
-pub(crate) const LINES: usize = 1 + AHEAD / 5;
-
 /// An input that is read in blocks. A block has the next line, for which the stream waits, and those
 /// behind it that are there already. So who writes a line is answered, and of an input without an
 /// end never more than twice `AHEAD` bytes are kept, in three times `AHEAD` bytes of memory.
