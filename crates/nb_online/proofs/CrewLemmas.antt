@@ -6,7 +6,7 @@ use Rattle.std.proofs.lemmas.List.{append-nil, length-map, take_all}
 use Rattle.std.proofs.lemmas.List.Elements.{All-cons, All-head, All-map, All-tail}
 use Rattle.std.proofs.lemmas.Option.{slice_get-map, slice_get_within}
 use Rattle.nb_core.specs.Log.{Entry}
-use Rattle.nb_lasting.specs.Guests.{AreAllGuests, CallsAddUp, GuestHasCalled, GuestOf, GuestsHaveSettled, HaveCome, SharedOf, knowing}
+use Rattle.nb_lasting.specs.Guests.{AreAllGuests, CallsAddUp, GuestHasCalled, GuestOf, GuestsHaveSettled, HaveCome, SharedOf, with_log}
 use Rattle.nb_lasting.specs.Shared.{IsOfGuest}
 use Rattle.nb_lasting.specs.declared.faults.GrowFault.{GrowFault}
 use Rattle.nb_online.specs.Working.{AreAllOf, AreSameGuests, HasDoneAll, HasDoneItsPart, HasRunOutOfRoom, HaveCounted, HaveDoneAll, WorkersHaveSettled, call_made, guests_of, beside_guest, workers_of}
@@ -157,13 +157,13 @@ parts-joined (guest ∷ guests) (part ∷ parts) many =
 numbered-still :
     (whole : List Entry) (guests : List GuestOf)
     → ((i : ℕ) (guest : GuestOf) → slice_get guests i ≡ Some guest → guest.number ≡ i)
-    → (i : ℕ) (guest : GuestOf) → slice_get (map (knowing whole) guests) i ≡ Some guest
+    → (i : ℕ) (guest : GuestOf) → slice_get (map (with_log whole) guests) i ≡ Some guest
     → guest.number ≡ i
 numbered-still whole guests numbered i guest at =
-    let old = there guests i (omega (arith, slice_get_within (map (knowing whole) guests) i guest at, length-map guests (knowing whole))) in
-    let is : knowing whole old.0 ≡ guest =
-    some-same (knowing whole old.0) guest
-    (sym (slice_get-map (knowing whole) guests i ∙ ap (option_map (knowing whole)) old.1) ∙ at) in
+    let old = there guests i (omega (arith, slice_get_within (map (with_log whole) guests) i guest at, length-map guests (with_log whole))) in
+    let is : with_log whole old.0 ≡ guest =
+    some-same (with_log whole old.0) guest
+    (sym (slice_get-map (with_log whole) guests i ∙ ap (option_map (with_log whole)) old.1) ∙ at) in
     sym (ap (λ (g : GuestOf). g.number) is) ∙ numbered i old.0 old.1
 
 pub settled-all :
@@ -174,10 +174,10 @@ settled-all shared before after online all settled =
     let know = settled.settled.know in
     record {
       of = subst (All (λ (guest : GuestOf). guest.of ≡ shared.id)) (sym know)
-          (All-map (λ (guest : GuestOf). guest.of ≡ shared.id) (knowing whole) (guests_of before)
+          (All-map (λ (guest : GuestOf). guest.of ≡ shared.id) (with_log whole) (guests_of before)
           all.of);
       all = record {
-        count = ap length know ∙ (length-map (guests_of before) (knowing whole) ∙ all.all.count);
+        count = ap length know ∙ (length-map (guests_of before) (with_log whole) ∙ all.all.count);
         numbered = λ i guest at.
             numbered-still whole (guests_of before) all.all.numbered i guest
             (ap (λ l. slice_get l i) (sym know) ∙ at);
@@ -192,7 +192,7 @@ pub joined-settled :
 joined-settled before guests now parts after online were had settled are =
     let many : length now ≡ length parts =
     ap length settled.know
-    ∙ (length-map guests (knowing settled.whole)
+    ∙ (length-map guests (with_log settled.whole)
     ∙ (ap length were ∙ (many-guests before ∙ sym (ap length had ∙ length-map before beside_guest)))) in
     record {
       settled = subst (λ gs. GuestsHaveSettled gs (guests_of after) online) were
@@ -230,10 +230,10 @@ have-counted add_up before middle after online done count settled = record {
         let was = there middle i (omega (arith, slice_get_within before i worker at, count)) in
         let then = was.0 in
         let all = done i worker then at was.1 in
-        let guest : knowing whole then.caller.guest ≡ worker'.caller.guest =
-        some-same (knowing whole then.caller.guest) worker'.caller.guest
-        (sym (slice_get-map (knowing whole) (guests_of middle) i
-        ∙ ap (option_map (knowing whole)) (guest-at middle i then was.1))
+        let guest : with_log whole then.caller.guest ≡ worker'.caller.guest =
+        some-same (with_log whole then.caller.guest) worker'.caller.guest
+        (sym (slice_get-map (with_log whole) (guests_of middle) i
+        ∙ ap (option_map (with_log whole)) (guest-at middle i then was.1))
         ∙ (ap (λ l. slice_get l i) (sym settled.settled.know) ∙ guest-at after i worker' at')) in
         let part : beside_guest then ≡ beside_guest worker' =
         some-same (beside_guest then) (beside_guest worker')

@@ -1,6 +1,6 @@
 use Rattle.std.proofs.Common.{◌∙◌, List, ap, arith, length, subst, sym}
 use Rattle.std.proofs.lemmas.List.{length-map}
-use Rattle.nb_lasting.specs.Guests.{GuestOf, GuestsHaveSettled, SharedOf, knowing}
+use Rattle.nb_lasting.specs.Guests.{GuestOf, GuestsHaveSettled, SharedOf, with_log}
 use Rattle.nb_online.specs.Working.{AreAllOf, workers_of}
 use Rattle.nb_online.proofs.CrewLemmas.{joined-settled, settled-all, whole-slice}
 use Rattle.nb_online.proofs.crew.Crew.settled.Goals as goal
@@ -14,7 +14,7 @@ invariant_of-result g c =
     let settled = subst (λ (l : List GuestOf). GuestsHaveSettled l now c.in-Ok.online)
     c.as_mut_slice.ensures.value c.in-Ok.ensures.settled in
     let whole = whole-slice now guests c.in_ok-guests.guests.len
-    (ap length settled.know ∙ length-map guests (knowing settled.whole))
+    (ap length settled.know ∙ length-map guests (with_log settled.whole))
     (omega (arith, c.in_ok-guests.guests.ok)) in
     let done = joined-settled before guests now parts c.in_ok-workers.workers.items c.in-Ok.online
     c.in_ok-guests.ensures.guests c.in_ok-guests.ensures.parts settled
@@ -35,7 +35,7 @@ returns g c =
     let settled = subst (λ (l : List GuestOf). GuestsHaveSettled l now c.in-Ok.online)
     c.as_mut_slice.ensures.value c.in-Ok.ensures.settled in
     let whole = whole-slice now guests c.in_ok-guests.guests.len
-    (ap length settled.know ∙ length-map guests (knowing settled.whole))
+    (ap length settled.know ∙ length-map guests (with_log settled.whole))
     (omega (arith, c.in_ok-guests.guests.ok)) in
     let done = joined-settled before guests now parts c.in_ok-workers.workers.items c.in-Ok.online
     c.in_ok-guests.ensures.guests c.in_ok-guests.ensures.parts settled
