@@ -9,7 +9,7 @@ use Rattle.nb_core.specs.Log.{Entry}
 use Rattle.nb_lasting.specs.Guests.{AreAllGuests, CallsAddUp, GuestHasCalled, GuestOf, GuestsHaveSettled, HaveCome, SharedOf, with_log}
 use Rattle.nb_lasting.specs.Shared.{IsOfGuest}
 use Rattle.nb_lasting.specs.declared.faults.GrowFault.{GrowFault}
-use Rattle.nb_online.specs.Working.{AreAllOf, AreSameGuests, HasDoneAll, HasDoneItsPart, HasRunOutOfRoom, HaveCounted, HaveDoneAll, WorkersHaveSettled, call_made, guests_of, beside_guest, workers_of}
+use Rattle.nb_online.specs.Working.{AreAllWorkers, AreSameGuests, HasDoneAll, HasDoneItsPart, HasRunOutOfRoom, HaveCounted, HaveDoneAll, WorkersHaveSettled, call_made, guests_of, beside_guest, workers_of}
 use Rattle.nb_online.specs.declared.worker.Part.{Part}
 use Rattle.nb_online.specs.declared.worker.Worker.{Worker}
 
@@ -62,8 +62,8 @@ guests-set (w ∷ workers) (suc k) new d below same =
     ap (λ l. w.caller.guest ∷ l) (guests-set workers k new d (omega (arith, below)) same)
 
 pub kept-all :
-    (shared : SharedOf) (before after : List Worker) → AreAllOf shared before
-    → guests_of after ≡ guests_of before → AreAllOf shared after
+    (shared : SharedOf) (before after : List Worker) → AreAllWorkers shared before
+    → guests_of after ≡ guests_of before → AreAllWorkers shared after
 kept-all shared before after all same = record {
   of = subst (All (λ (guest : GuestOf). guest.of ≡ shared.id)) (sym same) all.of;
   all = subst (AreAllGuests shared) (sym same) all.all;
@@ -105,8 +105,8 @@ all-of shared (x ∷ before) (y ∷ after) count each of =
     (All-tail (λ (guest : GuestOf). guest.of ≡ shared.id) x.caller.guest (guests_of before) of))
 
 pub still-all :
-    (shared : SharedOf) (before after : List Worker) → AreAllOf shared before
-    → AreSameGuests before after → AreAllOf shared after
+    (shared : SharedOf) (before after : List Worker) → AreAllWorkers shared before
+    → AreSameGuests before after → AreAllWorkers shared after
 still-all shared before after all same = record {
   of = all-of shared before after same.count (λ i w w' at at'. (same.each i w w' at at').0) all.of;
   all = record {
@@ -123,7 +123,7 @@ still-all shared before after all same = record {
 -- at the beginning
 pub all-come :
     (n : ℕ) (shared : SharedOf) (guests : List GuestOf) (workers : List Worker)
-    → HaveCome n shared guests → guests_of workers ≡ guests → AreAllOf shared workers
+    → HaveCome n shared guests → guests_of workers ≡ guests → AreAllWorkers shared workers
 all-come n shared guests workers come is = record {
   of = subst (All (λ (guest : GuestOf). guest.of ≡ shared.id)) (sym is) come.of;
   all = record {
@@ -167,8 +167,8 @@ numbered-still whole guests numbered i guest at =
     sym (ap (λ (g : GuestOf). g.number) is) ∙ numbered i old.0 old.1
 
 pub settled-all :
-    (shared : SharedOf) (before after : List Worker) (online : ℕ) → AreAllOf shared before
-    → WorkersHaveSettled before after online → AreAllOf shared after
+    (shared : SharedOf) (before after : List Worker) (online : ℕ) → AreAllWorkers shared before
+    → WorkersHaveSettled before after online → AreAllWorkers shared after
 settled-all shared before after online all settled =
     let whole = settled.settled.whole in
     let know = settled.settled.know in

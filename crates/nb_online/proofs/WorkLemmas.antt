@@ -66,11 +66,7 @@ made-none caller replayed = record {
   called = record {
     of = refl;
     number = refl;
-    log = record {
-      own = [];
-      are = refl;
-      gone = record { later = []; grown = refl; replayed = replayed; own = refl };
-    };
+    log = record { later = []; grown = refl; replayed = replayed; own = refl };
   };
   came = count-none has_come caller.came;
   went = count-none has_gone caller.went;

@@ -119,7 +119,7 @@ workers_of (guest ∷ guests) [] = []
 workers_of (guest ∷ guests) (part ∷ parts) = with_guest guest part ∷ workers_of guests parts
 
 -- these are all workers of the map, each of which has the guest with its number
-pub record AreAllOf (shared : SharedOf) (workers : List Worker) : Type 0 where
+pub record AreAllWorkers (shared : SharedOf) (workers : List Worker) : Type 0 where
   pub of : All (λ guest. guest.of ≡ shared.id) (guests_of workers)
   pub all : AreAllGuests shared (guests_of workers)
 

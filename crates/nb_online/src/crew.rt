@@ -2,7 +2,7 @@
 ghost use Rattle.std.specs.Prelude.{◌≡◌, ◌<◌, ◌≤◌, Err, IfErr, IfOk, List, OnOk, length, map};
 ghost use Rattle.nb_lasting.specs.Guests.{AreAllGuests, GuestsHaveSettled, HaveCome};
 ghost use Rattle.nb_lasting.specs.declared.faults.GrowFault.TheVariants as fault;
-ghost use Rattle.nb_online.specs.Working.{AreAllOf, AreSameGuests, HasDoneItsPart, HaveCounted, HaveDoneAll, OneHasRunOutOfRoom, WorkersHaveSettled, guests_of, beside_guest, workers_of};
+ghost use Rattle.nb_online.specs.Working.{AreAllWorkers, AreSameGuests, HasDoneItsPart, HaveCounted, HaveDoneAll, OneHasRunOutOfRoom, WorkersHaveSettled, guests_of, beside_guest, workers_of};
 ghost use Rattle.nb_online.specs.declared.worker.Worker.{Worker};
 
 use crate::worker::{Action, Part, Request, Worker};
@@ -19,7 +19,7 @@ use std::thread::Threads;
 pub(crate) struct Crew {
     shared: SharedLasting,
     workers: Vec<Worker>,
-    ghost all: { AreAllOf shared workers.items },
+    ghost all: { AreAllWorkers shared workers.items },
 }
 
 impl Crew {

@@ -1,5 +1,5 @@
 use Rattle.std.proofs.Common.{◌≡◌, ◌∙◌, ap, arith, length, subst, sym}
-use Rattle.nb_online.specs.Working.{AreAllOf, guests_of}
+use Rattle.nb_online.specs.Working.{AreAllWorkers, guests_of}
 use Rattle.nb_online.proofs.CrewLemmas.{kept-all, many-guests, whole-slice}
 use Rattle.nb_online.proofs.crew.Crew.keep.Goals as goal
 
@@ -12,7 +12,7 @@ invariant_of-self c =
     let long : length new ≡ length items =
     sym (many-guests new) ∙ (ap length same ∙ many-guests items) in
     record {
-      all = subst (AreAllOf c.args.self.now.shared)
+      all = subst (AreAllWorkers c.args.self.now.shared)
           (sym (whole-slice new items c.args.self.now.workers.len long
           (omega (arith, c.args.self.now.workers.ok))))
           (kept-all c.args.self.now.shared items new c.args.self.now.all same);

@@ -1,7 +1,7 @@
 use Rattle.std.proofs.Common.{◌∙◌, List, ap, arith, length, subst, sym}
 use Rattle.std.proofs.lemmas.List.{length-map}
 use Rattle.nb_lasting.specs.Guests.{GuestOf, GuestsHaveSettled, SharedOf, with_log}
-use Rattle.nb_online.specs.Working.{AreAllOf, workers_of}
+use Rattle.nb_online.specs.Working.{AreAllWorkers, workers_of}
 use Rattle.nb_online.proofs.CrewLemmas.{joined-settled, settled-all, whole-slice}
 use Rattle.nb_online.proofs.crew.Crew.settled.Goals as goal
 
@@ -20,7 +20,7 @@ invariant_of-result g c =
     c.in_ok-guests.ensures.guests c.in_ok-guests.ensures.parts settled
     (c.in_ok-workers.ensures ∙ ap (λ (l : List GuestOf). workers_of l parts) whole) in
     record {
-      all = subst (λ (s : SharedOf). AreAllOf s c.in_ok-workers.workers.items)
+      all = subst (λ (s : SharedOf). AreAllWorkers s c.in_ok-workers.workers.items)
           (sym c.settle.ensures.same)
           (settled-all c.args.self.shared before c.in_ok-workers.workers.items c.in-Ok.online
           c.args.self.all done);

@@ -1,6 +1,6 @@
 use Rattle.std.proofs.Common.{◌∙◌, List, ap, arith, length, subst, sym}
 use Rattle.std.specs.Prelude.{OnOk}
-use Rattle.nb_online.specs.Working.{AreAllOf, AreSameGuests, HaveDoneAll}
+use Rattle.nb_online.specs.Working.{AreAllWorkers, AreSameGuests, HaveDoneAll}
 use Rattle.nb_online.specs.declared.worker.Worker.{Worker}
 use Rattle.nb_online.proofs.CrewLemmas.{still-all, whole-slice}
 use Rattle.nb_online.proofs.crew.Crew.work.Goals as goal
@@ -12,7 +12,7 @@ invariant_of-self g c =
     let same = subst (λ (l : List Worker). AreSameGuests l new) c.as_mut_slice.ensures.value
     c.work.ensures.same in
     record {
-      all = subst (AreAllOf c.args.self.now.shared)
+      all = subst (AreAllWorkers c.args.self.now.shared)
           (sym (whole-slice new items c.args.self.now.workers.len same.count
           (omega (arith, c.args.self.now.workers.ok))))
           (still-all c.args.self.now.shared items new c.args.self.now.all same);
