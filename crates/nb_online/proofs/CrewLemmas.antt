@@ -1,6 +1,6 @@
 -- The workers and their guests, who settle.
 use Rattle.std.proofs.Common.{◌≡◌, ◌∙◌, ◌++◌, ◌%◌, ◌^◌, ◌<◌, ℕ, zero, suc, List, [], ◌∷◌, All, Some, ap, arith, drop, get_or, length, map, refl, slice_get, slice_set, subst, sym, take}
-use Rattle.std.specs.Prelude.{MatchOption, None, Option, option_map, unwrap_or}
+use Rattle.std.specs.Prelude.{◌≢◌, Err, IfOk, MatchOption, None, Ok, OnErr, Option, Result, option_map, unwrap_or}
 use Rattle.std.proofs.Math.Seq.{drop-length}
 use Rattle.std.proofs.lemmas.List.{append-nil, length-map, take_all}
 use Rattle.std.proofs.lemmas.List.Elements.{All-cons, All-head, All-map, All-tail}
@@ -9,8 +9,10 @@ use Rattle.nb_core.specs.Log.{Entry}
 use Rattle.nb_lasting.specs.Guests.{AreAllGuests, CallsAddUp, GuestHasCalled, GuestOf, GuestsHaveSettled, HaveCome, SharedOf, with_log}
 use Rattle.nb_lasting.specs.Shared.{IsOfGuest}
 use Rattle.nb_lasting.specs.declared.faults.GrowFault.{GrowFault}
-use Rattle.nb_online.specs.Working.{AreAllWorkers, AreSameGuests, HasDoneAll, HasDoneItsPart, HasRunOutOfRoom, HaveCounted, HaveDoneAll, WorkersHaveSettled, call_made, guests_of, beside_guest, workers_of}
+use Rattle.nb_map.specs.declared.faults.SettleFault.{SettleFault}
+use Rattle.nb_online.specs.Working.{AreAllWorkers, AreSameGuests, HasDoneAll, HasDoneItsPart, HasRunOutOfRoom, HaveCounted, HaveDoneAll, IsKeptBy, WorkersHaveSettled, call_made, guests_of, beside_guest, workers_of}
 use Rattle.nb_online.specs.declared.worker.Part.{Part}
+use Rattle.nb_online.specs.declared.worker.Request.{Request}
 use Rattle.nb_online.specs.declared.worker.Worker.{Worker}
 
 -- ---- lists
@@ -60,6 +62,45 @@ guests-set [] k new d below same = absurd (omega (arith, below))
 guests-set (w ∷ workers) zero new d below same = ap (λ g. g ∷ guests_of workers) same
 guests-set (w ∷ workers) (suc k) new d below same =
     ap (λ l. w.caller.guest ∷ l) (guests-set workers k new d (omega (arith, below)) same)
+
+kept-behind :
+    (owner : ℕ) (request : Request) (w : Worker) (before after : List Worker)
+    → IsKeptBy owner request before after → IsKeptBy (suc owner) request (w ∷ before) (w ∷ after)
+kept-behind owner request w before after kept = record {
+  count = ap suc kept.count;
+  last = kept.last;
+  others = others;
+}
+  where
+    others : (i : ℕ) → i ≢ suc owner → slice_get (w ∷ after) i ≡ slice_get (w ∷ before) i
+    others zero other = refl
+    others (suc i) other = kept.others i (λ is. other (ap suc is))
+
+pub kept-by :
+    (owner : ℕ) (request : Request) (workers : List Worker) (new d : Worker)
+    → owner < length workers → new.caller ≡ (get_or workers owner d).caller
+    → new.requests.items ≡ (get_or workers owner d).requests.items ++ request ∷ []
+    → IsKeptBy owner request workers (slice_set workers owner new)
+kept-by owner request [] new d below same last = absurd (omega (arith, below))
+kept-by zero request (w ∷ workers) new d below same last = record {
+  count = refl;
+  last = λ worker worker' at at'.
+      let is : w ≡ worker = some-same w worker at in
+      let is' : new ≡ worker' = some-same new worker' at' in (
+        ap (λ (u : Worker). u.caller) (sym is') ∙ same ∙ ap (λ (u : Worker). u.caller) is,
+        ap (λ (u : Worker). u.requests.items) (sym is') ∙ last
+        ∙ ap (λ (u : Worker). u.requests.items ++ request ∷ []) is,
+      );
+  others = others;
+}
+  where
+    others : (i : ℕ) → i ≢ zero
+        → slice_get (slice_set (w ∷ workers) zero new) i ≡ slice_get (w ∷ workers) i
+    others zero other = absurd (other refl)
+    others (suc i) other = refl
+kept-by (suc k) request (w ∷ workers) new d below same last =
+    kept-behind k request w workers (slice_set workers k new)
+    (kept-by k request workers new d (omega (arith, below)) same last)
 
 pub kept-all :
     (shared : SharedOf) (before after : List Worker) → AreAllWorkers shared before
@@ -200,6 +241,50 @@ joined-settled before guests now parts after online were had settled are =
           (sym (ap guests_of are ∙ guests-joined now parts many)) settled);
       rest = ap (map beside_guest) are ∙ (parts-joined now parts many ∙ had);
     }
+
+pub joined-back :
+    (workers : List Worker) → workers_of (guests_of workers) (map beside_guest workers) ≡ workers
+joined-back [] = refl
+joined-back (w ∷ workers) = ap (λ l. w ∷ l) (joined-back workers)
+
+pub back-same :
+    (before : List Worker) (guests now : List GuestOf) (parts : List Part) (after : List Worker)
+    → guests ≡ guests_of before → parts ≡ map beside_guest before → now ≡ guests
+    → after ≡ workers_of now parts → after ≡ before
+back-same before guests now parts after were had kept are =
+    are ∙ ap (λ g. workers_of g parts) (kept ∙ were) ∙ ap (workers_of (guests_of before)) had
+    ∙ joined-back before
+
+many-now :
+    (guests now : List GuestOf) (result : Result ℕ SettleFault)
+    → IfOk result (GuestsHaveSettled guests now) → OnErr result (now ≡ guests)
+    → length now ≡ length guests
+many-now guests now (Ok online) settled kept =
+    ap length settled.know ∙ length-map guests (with_log settled.whole)
+many-now guests now (Err fault) settled kept = ap length kept
+
+-- The workers have the guests as they are now, settled or not.
+pub joined-now :
+    (guests now : List GuestOf) (parts : List Part) (after : List Worker)
+    (len : ℕ) (result : Result ℕ SettleFault) → len ≡ length guests
+    → IfOk result (GuestsHaveSettled guests now) → OnErr result (now ≡ guests)
+    → after ≡ workers_of (take len (now ++ drop (length now) guests)) parts
+    → after ≡ workers_of now parts
+joined-now guests now parts after len result long settled kept are =
+    are ∙ ap (λ l. workers_of l parts)
+    (whole-slice now guests len (many-now guests now result settled kept) long)
+
+pub back-all :
+    (shared : SharedOf) (before : List Worker) (guests now : List GuestOf) (parts : List Part)
+    (after : List Worker) (result : Result ℕ SettleFault) → guests ≡ guests_of before
+    → parts ≡ map beside_guest before → IfOk result (GuestsHaveSettled guests now)
+    → OnErr result (now ≡ guests) → after ≡ workers_of now parts → AreAllWorkers shared before
+    → AreAllWorkers shared after
+back-all shared before guests now parts after (Ok online) were had settled kept are all =
+    settled-all shared before after online all
+    (joined-settled before guests now parts after online were had settled are)
+back-all shared before guests now parts after (Err fault) were had settled kept are all =
+    subst (AreAllWorkers shared) (sym (back-same before guests now parts after were had kept are)) all
 
 -- ---- a count
 

@@ -1,6 +1,6 @@
 -- What a worker does: which calls it makes, and what it counts.
 use Rattle.std.specs.FinMap as numbers
-use Rattle.std.specs.Prelude.{◌≡◌, ◌+◌, ◌%◌, ◌^◌, ◌∷◌, ℕ, All, Bool, false, List, [], Some, MatchOption, count_by, is_none, is_some, length, map, reverse, slice_get, take}
+use Rattle.std.specs.Prelude.{◌≡◌, ◌≢◌, ◌+◌, ◌++◌, ◌%◌, ◌^◌, ◌⊎◌, ◌∷◌, ℕ, All, Bool, false, List, [], None, Some, MatchOption, count_by, is_none, is_some, length, map, reverse, slice_get, sum_by, take}
 use Rattle.nb_core.specs.Log.{Entry, IsReplayed, map_of_log}
 use Rattle.nb_core.specs.declared.calls.Call.{Call}
 use Rattle.nb_core.specs.declared.calls.Reply.{Reply}
@@ -8,6 +8,7 @@ use Rattle.nb_lasting.specs.Guests.{AreAllGuests, GuestHasCalled, GuestIsRefused
 use Rattle.nb_lasting.specs.Lasting.{as_write_fault}
 use Rattle.nb_lasting.specs.Shared.{IsOfGuest}
 use Rattle.nb_lasting.specs.declared.faults.GrowFault.{GrowFault}
+use Rattle.nb_lasting.specs.declared.faults.GrowFault.TheVariants.{OutOfMemory}
 use Rattle.nb_map.specs.NamedCalls.{put_if_absent_of, remove_of}
 use Rattle.nb_online.specs.declared.worker.Action.{Action}
 use Rattle.nb_online.specs.declared.worker.Action.TheVariants.{Come, Go}
@@ -91,6 +92,35 @@ pub record OneHasRunOutOfRoom (before after : List Worker) (fault : GrowFault) :
   pub is : slice_get after place ≡ Some worker'
   pub out : HasRunOutOfRoom worker worker' fault
 
+-- ---- at the beginning
+
+-- It has done nothing, has counted nothing, and has nothing to do.
+pub record IsNew (worker : Worker) : Type 0 where
+  pub idle : worker.requests.items ≡ []
+  pub came : worker.caller.came ≡ 0
+  pub went : worker.caller.went ≡ 0
+  pub stopped : worker.stopped ≡ None
+
+-- what all workers have counted by this, modulo 2^64
+abbrev pub moves_of : List Worker → (counted : Caller → ℕ) → ℕ
+moves_of workers counted = sum_by (λ worker. counted worker.caller) workers % 2 ^ 64
+
+-- ---- a request is kept
+
+-- The worker with this number has it as its last one, and all else is as before.
+pub record IsKeptBy (owner : ℕ) (request : Request) (before after : List Worker) : Type 0 where
+  pub count : length after ≡ length before
+  pub last :
+      (worker worker' : Worker) → slice_get before owner ≡ Some worker
+      → slice_get after owner ≡ Some worker'
+      → (worker'.caller ≡ worker.caller)
+      × (worker'.requests.items ≡ worker.requests.items ++ request ∷ [])
+  pub others : (i : ℕ) → i ≢ owner → slice_get after i ≡ slice_get before i
+
+-- The worker is the one whose number is left when the key is divided by how many there are.
+abbrev pub IsKept : Request → (before after : List Worker) → Type 0
+IsKept request before after = IsKeptBy (request.key % length before) request before after
+
 -- ---- a worker and its guest
 
 -- the worker without its guest, and with one
@@ -153,3 +183,10 @@ pub record HaveCounted (before after : List Worker) (online : ℕ) : Type 0 wher
   pub count : length after ≡ length before
   pub made : All (IsOfGuest (length before)) whole
   pub keys : online ≡ length (numbers.entries (map_of_log whole))
+
+-- Nothing is counted: a worker has run out of room by this fault, or each has done all that it was to
+-- do, and memory to count was refused.
+abbrev pub AreNotCounted : (before after : List Worker) → GrowFault → Type 0
+AreNotCounted before after fault =
+    OneHasRunOutOfRoom before after fault
+    ⊎ ((fault ≡ OutOfMemory) × HaveDoneAll before after)

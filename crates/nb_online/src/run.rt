@@ -46,8 +46,8 @@ where
         crew = run.do_lines(rt, alloc, crew, stream.lines())?;
         run.tell_renewals(rt, crew.renewals());
     }
-    let (crew, online) = crew.counted(rt, alloc).map_err(fault_of)?;
-    run.print_end(&crew, online)
+    let (crew, counted) = crew.counted(rt, alloc);
+    run.print_end(&crew, counted.map_err(fault_of)?)
 }
 
 impl<W: Write + Drop> Run<W> {
@@ -80,9 +80,9 @@ impl<W: Write + Drop> Run<W> {
                 Line::On(key) => crew.keep(key, Action::Come)?,
                 Line::Off(key) => crew.keep(key, Action::Go)?,
                 Line::Count => {
-                    let (counted, online) = crew.counted(rt, alloc).map_err(fault_of)?;
-                    crew = counted;
-                    self.print_count(online)?;
+                    let (next, counted) = crew.counted(rt, alloc);
+                    crew = next;
+                    self.print_count(counted.map_err(fault_of)?)?;
                 }
             }
         }

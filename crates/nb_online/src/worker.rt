@@ -1,5 +1,5 @@
 //! A worker: its guest of the map, what it is to do, and what it counts.
-ghost use Rattle.std.specs.Prelude.{◌≡◌, ◌∷◌, [], IfErr, OnOk};
+ghost use Rattle.std.specs.Prelude.{◌≡◌, ◌++◌, ◌∷◌, [], IfErr, OnOk};
 
 use nb_core::{Key, Num, OutOfMemory};
 use nb_lasting::laws::guest_calls_add_up;
@@ -98,10 +98,11 @@ pub(crate) struct Part {
 }
 
 impl Worker {
-    ghost use Rattle.nb_online.specs.Working.{HasDoneAll, HasDoneItsPart, HasRunOutOfRoom, beside_guest};
+    ghost use Rattle.nb_online.specs.Working.{HasDoneAll, HasDoneItsPart, HasRunOutOfRoom, IsNew, beside_guest};
 
     pub(crate) fn new(alloc: Global, guest: Guest) -> Worker
-        ensures { result.caller.guest ≡ guest }
+        ensures guest { result.caller.guest ≡ guest }
+        ensures idle { IsNew result }
     {
         let part = Part {
             came: 0,
@@ -113,7 +114,9 @@ impl Worker {
     }
 
     pub(crate) fn push(&mut self, request: Request) -> Result<(), OutOfMemory>
-        ensures { self.new.caller ≡ self.old.caller }
+        ensures caller { self.new.caller ≡ self.old.caller }
+        ensures kept { OnOk result (self.new.requests.items
+            ≡ self.old.requests.items ++ request ∷ []) }
     {
         self.requests.push(request)?;
         Ok(())

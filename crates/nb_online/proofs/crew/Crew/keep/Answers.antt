@@ -8,7 +8,7 @@ invariant_of-self c =
     let items = c.args.self.now.workers.items in
     let new = c.keep_for.new.workers in
     let same : guests_of new ≡ guests_of items =
-    c.keep_for.ensures ∙ ap guests_of c.as_mut_slice.ensures.value in
+    c.keep_for.ensures.guests ∙ ap guests_of c.as_mut_slice.ensures.value in
     let long : length new ≡ length items =
     sym (many-guests new) ∙ (ap length same ∙ many-guests items) in
     record {
