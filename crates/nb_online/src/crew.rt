@@ -150,11 +150,7 @@ fn hired(alloc: Global, guests: Vec<Guest>) -> Result<Vec<Worker>, OutOfMemory>
 }
 
 /// The workers' guests, and what else they have, in lists with room for them.
-fn parted(
-    workers: Vec<Worker>,
-    guests: Vec<Guest>,
-    parts: Vec<Part>,
-) -> (Vec<Guest>, Vec<Part>)
+fn parted(workers: Vec<Worker>, guests: Vec<Guest>, parts: Vec<Part>) -> (Vec<Guest>, Vec<Part>)
     requires empty { (guests.items ≡ []) × (parts.items ≡ []) }
     requires room { (length workers.items ≤ vec_capacity guests)
         × (length workers.items ≤ vec_capacity parts) }
