@@ -25,7 +25,8 @@ use Rattle.nb_lasting.proofs.Epochs.{goes_on, leaves, replays}
 use Rattle.nb_lasting.proofs.Sharing.{known-of, log-as-events}
 use Rattle.nb_lasting.specs.Epochs.{HasGoneOnBy}
 use Rattle.nb_lasting.specs.Holding.{CanGive, HasCalledIn, HasWrittenIn, IsIdleGuest, IsJustIn}
-use Rattle.nb_lasting.specs.Shared.{EpochIn, HasGiven, HasTaken, KnowsIn, as_events, known_in, known_of, rest_outs}
+use Rattle.nb_lasting.specs.Shared.{EpochIn, HasGiven, HasTaken, KnowsIn, as_events, known_in, known_of, rest_outs, account_in}
+use Rattle.nb_lasting.specs.Visits.{HasVisited, gave}
 use Rattle.nb_lasting.specs.declared.shared.LaneView.{LaneView}
 
 -- what a handle knows after its calls
@@ -138,6 +139,20 @@ module _
       slots = given.1
           ∙ ap rest (ap (λ (m : Me (Option HandleOf) LaneView). m.1) is) ∙ ap rest taken.slots
           ∙ idle.slots;
+    }
+
+    -- the account of its visit
+    pub visited :
+        (did : (there back : HandleOf) → Type 0) → did taken.handle handle
+        → HasVisited lane did before.0.account after.0.account
+    visited did done = record {
+      there = taken.handle;
+      back = handle;
+      own = taken.one.number;
+      account = ap (λ (v : LaneView). v.account) given.0
+          ∙ ap (λ (m : Me (Option HandleOf) LaneView). account_in m.1 m.0.account) is
+          ∙ ap (gave handle) taken.account;
+      done = done;
     }
 
     pub has-called : HasCalledIn lane before.0 after.0 made

@@ -20,7 +20,8 @@ use Rattle.nb_lasting.proofs.Refused.{renewed-all}
 use Rattle.nb_lasting.proofs.Renewed.{all-from, at-all}
 use Rattle.nb_lasting.specs.Gathered.{AreSingle, IsPartedAnew, IsSingle}
 use Rattle.nb_lasting.specs.Renewal.{AreHeld, AreRenewed, CanComeHome, CanDealAnew, CanDealBelow, KnowOneLog, HoldsBelow, HoldsStill, IsIdleToken, blanks, down}
-use Rattle.nb_lasting.specs.Shared.{Has, HasBegunAnew, HasDealt, HasGiven, HasTaken, Holds, IsCurrent, IsLane, IsOfGuest, FitsLanes, KnowsIn, all_knew, as_guest, given, known_in, known_of, log_in, map_in, rest_outs, times_out}
+use Rattle.nb_lasting.specs.Shared.{Has, HasBegunAnew, HasDealt, HasGiven, HasTaken, Holds, IsCurrent, IsLane, IsOfGuest, FitsLanes, KnowsIn, all_knew, as_guest, given, known_in, known_of, log_in, map_in, rest_outs, account_in, times_out}
+use Rattle.nb_lasting.specs.declared.shared.Account.{Account}
 use Rattle.nb_lasting.specs.declared.shared.Out.{Out}
 use Rattle.nb_lasting.specs.declared.shared.LaneView.{LaneView}
 
@@ -319,9 +320,11 @@ module _
         }
 
     -- the others, when the view has lost the last lane alone, or seen more
-    pub held-left : (seen : List Event) → after.0 ≡ given new.0 (rest_outs new.0.outs) seen
+    pub held-left :
+        (seen : List Event) (account : Account)
+        → after.0 ≡ given new.0 (rest_outs new.0.outs) seen account
         → AreHeld after.0.map after.0.filled after.0.past lane know handles
-    held-left seen gone =
+    held-left seen account gone =
         subst (λ (m : MapOf). AreHeld m after.0.filled after.0.past lane know handles)
         (sym (ap (λ (v : LaneView). v.map) gone ∙ ap (λ (v : LaneView). v.map) new-view))
         (subst (λ (f : List Event). AreHeld me.0.map f after.0.past lane know handles)
@@ -330,9 +333,12 @@ module _
         (sym (ap (λ (v : LaneView). v.past) gone ∙ ap (λ (v : LaneView). v.past) new-view))
         (popped lane me.0.map me.0.filled me.0.past know handles before handle popped-is held).0))
 
-    pub outs-left : (seen : List Event) → after.0 ≡ given new.0 (rest_outs new.0.outs) seen
+    pub outs-left :
+        (seen : List Event) (account : Account)
+        → after.0 ≡ given new.0 (rest_outs new.0.outs) seen account
         → after.0.outs ≡ down knew lane
-    outs-left seen gone = ap (λ (v : LaneView). v.outs) gone ∙ ap rest_outs (outs-is knew outs)
+    outs-left seen account gone =
+        ap (λ (v : LaneView). v.outs) gone ∙ ap rest_outs (outs-is knew outs)
 
   pub can-deal : CanDealBelow (lane + 1) me before → CanDeal lane new
   can-deal can = record {
@@ -347,9 +353,9 @@ module _
   dealt can gone = record {
     knew = can.knew;
     know = can.know;
-    outs = outs-left can.knew can.know can.outs can.held new.0.seen gone.0;
+    outs = outs-left can.knew can.know can.outs can.held new.0.seen new.0.account gone.0;
     slots = slots-left can.slots gone.1;
-    held = held-left can.knew can.know can.outs can.held new.0.seen gone.0;
+    held = held-left can.knew can.know can.outs can.held new.0.seen new.0.account gone.0;
     current = λ i less. can.current i (omega (arith, less));
   }
 
@@ -384,9 +390,11 @@ module _
       record {
         knew = can.knew;
         know = can.know;
-        outs = outs-left can.knew can.know can.outs can.held seen gone.0;
+        outs = outs-left can.knew can.know can.outs can.held seen (account_in new.1 new.0.account)
+            gone.0;
         slots = slots-left can.slots gone.1;
-        held = held-left can.knew can.know can.outs can.held seen gone.0;
+        held = held-left can.knew can.know can.outs can.held seen (account_in new.1 new.0.account)
+            gone.0;
         current = λ i less. can.current i (omega (arith, less));
         guest = ap (λ (v : LaneView). v.guest) gone.0 ∙ ap (λ (v : LaneView). v.guest) new-view
             ∙ can.guest;
@@ -406,9 +414,9 @@ module _
   come-else own whole can other gone = record {
     knew = can.knew;
     know = can.know;
-    outs = outs-left can.knew can.know can.outs can.held new.0.seen gone.0;
+    outs = outs-left can.knew can.know can.outs can.held new.0.seen new.0.account gone.0;
     slots = slots-left can.slots gone.1;
-    held = held-left can.knew can.know can.outs can.held new.0.seen gone.0;
+    held = held-left can.knew can.know can.outs can.held new.0.seen new.0.account gone.0;
     current = λ i less. can.current i (omega (arith, less));
     guest = ap (λ (v : LaneView). v.guest) gone.0 ∙ ap (λ (v : LaneView). v.guest) new-view
         ∙ can.guest;

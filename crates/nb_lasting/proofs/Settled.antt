@@ -1,7 +1,7 @@
 -- All guests settle: what the token holds, from step to step.
 use Rattle.std.proofs.Common.{◌≡◌, ◌∙◌, ◌+◌, ◌++◌, ◌<◌, ◌≤◌, ℕ, suc, List, [], ◌∷◌, All, Some, ap, drop, get_or, inl, inr, length, map, refl, slice_get, slice_set, subst, sym, arith}
 use Rattle.std.specs.FinMap as numbers
-use Rattle.std.specs.Prelude.{Err, IfOk, Ok, OnErr, Option, Result, option_map, unwrap_or}
+use Rattle.std.specs.Prelude.{Err, IfOk, Ok, OnErr, Option, Result, option_map}
 use Rattle.std.proofs.Math.Seq.{drop-cons}
 use Rattle.std.proofs.lemmas.List.{append_cancel_right, get_or-set_other, get_or-set_same, length-map, length-set}
 use Rattle.std.proofs.lemmas.List.Elements.{All-append, All-map}
@@ -19,7 +19,7 @@ use Rattle.nb_map.specs.Logs.{log}
 use Rattle.nb_map.specs.Maps.{MapOf}
 use Rattle.nb_lasting.proofs.Closed.{more-come}
 use Rattle.nb_lasting.proofs.Dealt.{held-left, holds-last, knows-last, new-slot, new-view, outs-left, slots-left, there_is}
-use Rattle.nb_lasting.proofs.Renewed.{AreCountedIn}
+use Rattle.nb_lasting.proofs.Renewed.{AreCountedIn, some-same}
 use Rattle.nb_lasting.proofs.Sharing.{Same, decided, known-of, log-as-events}
 use Rattle.nb_lasting.proofs.Visiting.{goes-on-to, one_log_of_guests, then-called}
 use Rattle.nb_lasting.specs.Closing.{HasGathered, HaveComeTo}
@@ -28,7 +28,7 @@ use Rattle.nb_lasting.specs.Guests.{GoesOnTo, GuestHasCalled, GuestOf, GuestsHav
 use Rattle.nb_lasting.specs.Holding.{CanGive}
 use Rattle.nb_lasting.specs.Renewal.{AreHeld, AreStill, HoldsBelow, HoldsStill}
 use Rattle.nb_lasting.specs.Settling.{CanSettle, HasLent, KnowFrom}
-use Rattle.nb_lasting.specs.Shared.{FitsLanes, HasGiven, IsOfGuest, as_events, as_guest, guest_left, known_in, known_of}
+use Rattle.nb_lasting.specs.Shared.{FitsLanes, HasGiven, IsOfGuest, as_events, as_guest, account_in, guest_left, known_in, known_of}
 use Rattle.nb_lasting.specs.declared.shared.LaneView.{LaneView}
 
 -- ---- the guest's place goes on, and what is held stays
@@ -100,15 +100,16 @@ module _
   pub given-last :
       HasGiven new after → CanSettle whole lane after handles × (log_of after.0.seen ≡ whole)
   given-last gone =
-      let seen = known_in new.0 new.1 in (
+      let seen = known_in new.0 new.1 in
+      let account = account_in new.1 new.0.account in (
         record {
           knew = can.knew;
           know = can.know;
           outs = outs-left lane me new after handles before handle popped-is is can.knew can.know
-              can.outs can.held seen gone.0;
+              can.outs can.held seen account gone.0;
           slots = slots-left lane me new after handles before handle popped-is is can.slots gone.1;
           held = held-left lane me new after handles before handle popped-is is can.knew can.know
-              can.outs can.held seen gone.0;
+              can.outs can.held seen account gone.0;
           one = λ i less. can.one i (omega (arith, less));
         },
         ap (λ (v : LaneView). log_of v.seen) gone.0
@@ -131,9 +132,6 @@ settled-replayed whole n lane me handles below can =
     subst IsReplayed (can.one lane below) (can.held.each lane one.0 one.1).1.replayed
 
 -- ---- one guest after another
-
-some-same : {X : Type 0} (x y : X) → ◌≡◌ {A = Option X} (Some x) (Some y) → x ≡ y
-some-same x y is = ap (λ o. unwrap_or o x) is
 
 get-set-here : (guests : List GuestOf) (k : ℕ) (guest : GuestOf) → k < length guests
     → slice_get (slice_set guests k guest) k ≡ Some guest

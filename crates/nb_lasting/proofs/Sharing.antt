@@ -18,8 +18,10 @@ use Rattle.nb_map.specs.Logs.{log}
 use Rattle.nb_map.specs.Maps.{MapOf, SeatOf}
 use Rattle.nb_lasting.proofs.Epochs.{goes_on}
 use Rattle.nb_lasting.specs.Epochs.{HasGoneOnBy}
+use Rattle.nb_lasting.specs.declared.shared.Account.{Account}
 use Rattle.nb_lasting.specs.declared.shared.Out.{Out}
 use Rattle.nb_lasting.specs.declared.shared.LaneView.{LaneView}
+use Rattle.nb_lasting.specs.Visits.{gave, took}
 use Rattle.nb_lasting.specs.Shared.{Deals, EpochIn, Gives, IsOfGuest, Marks, FitsLanes, Renews, as_events, dealer_left, first_lane_view, new_guest, next_dealer, known_of, rest_outs, Has, HasTaken, Holds, HoldsAnew, IsOfMap, IsCurrent, IsLane, IsOneLog, KnowsIn, LaneMoment, Takes, absent, all_knew, given, given_anew, holders, times_out, word_of}
 
 abbrev Homes : Type 0
@@ -163,7 +165,7 @@ current_here i seen replayed =
 module _
     (p : Plan) (s : LaneMoment) (rule : IsOneLog p s) (id : ℕ) (me : Me (Option HandleOf) LaneView)
     (at : get_elem? s.views id ≡ some me.0) (lane : ℕ) (within : lane < p.seats) (out : ℕ)
-    (is-out : out ≢ 0) where
+    (is-out : out ≢ 0) (handle : HandleOf) where
   out-taken : Out
   out-taken = record { lane = lane; knew = rule.current lane }
 
@@ -176,12 +178,13 @@ module _
     filled = rule.epoch.filled;
     past = rule.epoch.past;
     outs = record { lane = lane; knew = rule.current lane } ∷ me.0.outs;
+    account = took handle me.0.account;
   }
 
   take-keeps :
-      (handle : HandleOf) → absent (get_elem? s.homes lane) ≡ 0
+      absent (get_elem? s.homes lane) ≡ 0
       → IsOneLog p (stepped s (word_of lane) out id me.1 taken (takes lane (Some handle)))
-  take-keeps handle home = record {
+  take-keeps home = record {
     shared = rule.shared;
     epoch = rule.epoch;
     current = rule.current;
@@ -331,6 +334,10 @@ module _
           let y = was other u found' in
           rule.one_dealer id' other x.0 y.0 d d' x.1 y.1 (x.3 ∙ deals) (y.3 ∙ deals')
 
+module _
+    (p : Plan) (s : LaneMoment) (rule : IsOneLog p s) (id : ℕ) (me : Me (Option HandleOf) LaneView)
+    (at : get_elem? s.views id ≡ some me.0) (lane : ℕ) (within : lane < p.seats) (out : ℕ)
+    (is-out : out ≢ 0) where
   same-state : IsOneLog p (stepped s (word_of lane) (slice_index s.words (word_of lane)) id me.1 me.0 keeps)
   same-state =
       subst (λ ws. IsOneLog p (record {
@@ -342,6 +349,9 @@ module _
       (subst (λ vs. IsOneLog p (record { words = s.words; homes = s.homes; views = vs }))
       (sym (set_again s.views id me.0 at)) rule)
 
+  abbrev has-taken : HandleOf → LaneView
+  has-taken = taken p s rule id me at lane within out is-out
+
   abbrev Goes : ℕ → ℕ → Type 0
   Goes slots k = (w : LaneView) × (a : Act (Option HandleOf)) × Valid s.homes me.1 a
       × IsOneLog p (stepped s (word_of lane) k id me.1 w a)
@@ -352,15 +362,15 @@ module _
       let home : absent (get_elem? s.homes lane) ≡ 0 = rule.words lane within is in
       let y = present s.homes lane (omega (arith, within, rule.count)) home in
       let lies = rule.homes lane y.0 y.1 in (
-        taken,
+        has-taken lies.0,
         takes lane (Some lies.0),
         y.1 ∙ ap (λ z. some (some z)) lies.1,
-        take-keeps lies.0 home,
+        take-keeps p s rule id me at lane within out is-out lies.0 home,
         (
           (λ _ other same-word.
               let e : lane ≡ other = omega (arith, same-word) in
-              subst (λ l. HasTaken l me (taken, carried_after me.1 (takes lane (Some lies.0)))
-              × FitsLanes slots taken) e (
+              subst (λ l. HasTaken l me (has-taken lies.0, carried_after me.1 (takes lane (Some lies.0)))
+              × FitsLanes slots (has-taken lies.0)) e (
                 record {
                   handle = lies.0;
                   knew = rule.current lane;
@@ -371,20 +381,21 @@ module _
                   epoch = rule.epoch;
                   begun = (refl, refl);
                   guest = (refl, refl, refl);
+                  account = refl;
                   mine = λ own. subst (λ l. IsCurrent lane l (rule.current lane))
                       (sym (rule.guests id me.0 lane at own).1) (rule.goes lane within);
                   same = λ some-lane.
                       let there-at = rule.held id me.0 at some-lane in
                       (sym there-at.map, sym there-at.filled, sym there-at.past);
                 },
-                seated (sym rule.count ∙ homes),
+                seated lies.0 (sym rule.count ∙ homes),
               )),
           (λ not. absurd (not is)),
         ),
       )
     where
-      seated : p.seats ≡ slots → FitsLanes slots taken
-      seated many = record {
+      seated : (handle : HandleOf) → p.seats ≡ slots → FitsLanes slots (has-taken handle)
+      seated handle many = record {
         fits = rule.fits ∙ many;
         made = subst (λ n. All (IsOfGuest n) (log_of rule.epoch.past)) many rule.made;
       }
@@ -713,9 +724,11 @@ module _
       → ((other : ℕ) (u : LaneView) (i : ℕ) → other ≢ id → get_elem? s.views other ≡ some u
       → u.guest ≡ Some i → u.seen ≡ seen i)
       → ((i : ℕ) → rule.dealt ≤ i → seen i ≡ [])
-      → IsOneLog p (stepped s (word_of lane) 0 id ((lane, Some handle) ∷ more) (given v outs w-seen) gives)
-  home-keeps w-seen seen goes mine away fresh =
-      back-keeps p s rule id v (given v outs w-seen) lane knew handle more at within refl refl
+      → (account : Account)
+      → IsOneLog p
+      (stepped s (word_of lane) 0 id ((lane, Some handle) ∷ more) (given v outs w-seen account) gives)
+  home-keeps w-seen seen goes mine away fresh account =
+      back-keeps p s rule id v (given v outs w-seen account) lane knew handle more at within refl refl
       (λ i. ap (times_out i) view) rule.shared rule.epoch (with_current rule.current lane whole) seen
       rule.fits rule.made (record { map = one.map ∙ is-at.map; number = one.number; alone = one.alone })
       (subst (KnowsIn rule.epoch.filled rule.epoch.past handle.seat)
@@ -740,8 +753,11 @@ module _
   -- by its guest, which has seen all that the handle knows
   give-keeps :
       v.guest ≡ Some lane
-      → IsOneLog p (stepped s (word_of lane) 0 id ((lane, Some handle) ∷ more) (given v outs whole) gives)
-  give-keeps is-guest = home-keeps whole (with_current rule.seen lane whole) goes mine away fresh
+      → IsOneLog p
+      (stepped s (word_of lane) 0 id ((lane, Some handle) ∷ more)
+      (given v outs whole (gave handle v.account)) gives)
+  give-keeps is-guest =
+      home-keeps whole (with_current rule.seen lane whole) goes mine away fresh (gave handle v.account)
     where
       dealt : lane < rule.dealt
       dealt = (rule.guests id v lane at is-guest).0
@@ -787,10 +803,11 @@ module _
   -- by who has taken it, and called nothing
   deal-keeps :
       IsCurrent lane knew whole
-      → IsOneLog p (stepped s (word_of lane) 0 id ((lane, Some handle) ∷ more) (given v outs v.seen) gives)
+      → IsOneLog p
+      (stepped s (word_of lane) 0 id ((lane, Some handle) ∷ more) (given v outs v.seen v.account) gives)
   deal-keeps gone =
       home-keeps v.seen rule.seen goes (λ i is. (rule.guests id v i at is).1)
-      (λ other u i differ at' is. (rule.guests other u i at' is).1) rule.fresh
+      (λ other u i differ at' is. (rule.guests other u i at' is).1) rule.fresh v.account
     where
       goes : (i : ℕ) → i < p.seats
           → IsCurrent i (rule.seen i) (with_current rule.current lane whole i)
@@ -932,14 +949,15 @@ give_allowed p slots id me lane knew whole handle within holds is-guest =
     subst (λ (c : List (ℕ × Option HandleOf)). Allows (IsOneLog p) slots id (me.0, c) (word_of lane) (λ _. 0)
     (λ _. Gives (step slots (word_of lane) 0 0 none) (me.0, c) 0)) (sym holds.slot)
     (λ s rule homes at fits. (
-      given me.0 holds.outs (known_of me.0.filled me.0.past handle.seat),
+      given me.0 holds.outs (known_of me.0.filled me.0.past handle.seat) (gave handle me.0.account),
       gives,
       tt,
       give-keeps p s rule id me.0 lane knew (known_of me.0.filled me.0.past handle.seat) holds.outs
           handle (rest me.1) at within holds.view holds.one
           (known-of me.0.filled me.0.past handle.seat whole holds.knows).1 is-guest,
       (
-        ap (λ outs. given me.0 (rest_outs outs) (known_of me.0.filled me.0.past handle.seat))
+        ap (λ outs. given me.0 (rest_outs outs) (known_of me.0.filled me.0.past handle.seat)
+            (gave handle me.0.account))
             (sym holds.view),
         refl,
       ),
@@ -954,12 +972,12 @@ deal_allowed p slots id me lane knew whole handle within holds gone =
     subst (λ (c : List (ℕ × Option HandleOf)). Allows (IsOneLog p) slots id (me.0, c) (word_of lane) (λ _. 0)
     (λ _. Deals (step slots (word_of lane) 0 0 none) (me.0, c) 0)) (sym holds.slot)
     (λ s rule homes at fits. (
-      given me.0 holds.outs me.0.seen,
+      given me.0 holds.outs me.0.seen me.0.account,
       gives,
       tt,
       deal-keeps p s rule id me.0 lane knew whole holds.outs handle (rest me.1) at within holds.view
           holds.one holds.knows gone,
-      (ap (λ outs. given me.0 (rest_outs outs) me.0.seen) (sym holds.view), refl),
+      (ap (λ outs. given me.0 (rest_outs outs) me.0.seen me.0.account) (sym holds.view), refl),
     ))
 
 -- who knows just what its map went on from has the log that filled it

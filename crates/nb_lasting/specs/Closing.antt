@@ -5,7 +5,7 @@ use Rattle.atomic_table.specs.Seated.{TableId}
 use Rattle.atomic_table.specs.Table.{Me}
 use Rattle.nb_core.specs.declared.events.Event.{Event}
 use Rattle.nb_map.specs.Handles.{HandleOf}
-use Rattle.nb_lasting.specs.Guests.{GoesOnTo, GuestOf}
+use Rattle.nb_lasting.specs.Guests.{GoesOnTo, GuestOf, new_guest_of}
 use Rattle.nb_core.specs.Log.{log_of}
 use Rattle.nb_lasting.specs.Renewal.{HoldsBelow}
 use Rattle.nb_lasting.specs.Shared.{IsCurrent}
@@ -40,7 +40,7 @@ pub record AreNew (n : ℕ) (id : TableId) (guests : List GuestOf) : Type 0 wher
   pub count : length guests ≡ n
   pub each :
       (i : ℕ) (guest : GuestOf) → slice_get guests i ≡ Some guest
-      → guest ≡ record { of = id; number = i; log = [] }
+      → guest ≡ new_guest_of id i
 
 -- Some of all guests are done, whose handles are gathered; these are left.
 pub record HaveComeTo (all left : List GuestOf) (me : Me (Option HandleOf) LaneView)

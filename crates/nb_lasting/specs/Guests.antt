@@ -7,17 +7,30 @@ use Rattle.nb_core.specs.Log.{Entry, IsReplayed, Numbers, calls_of, map_of_log}
 use Rattle.nb_core.specs.declared.calls.Call.{Call}
 use Rattle.nb_core.specs.declared.calls.Reply.{Reply}
 use Rattle.nb_map.specs.Ending.{EndedOf, map_left}
+use Rattle.nb_map.specs.Promises.{HasGot}
 use Rattle.nb_lasting.specs.Epochs.{HasGoneOnBy}
 use Rattle.nb_lasting.specs.Lasting.{IsRefusedFor}
 use Rattle.nb_lasting.specs.Shared.{IsOfGuest}
+use Rattle.nb_lasting.specs.Visits.{HasVisited, no_account}
 use Rattle.nb_lasting.specs.declared.faults.WriteFault.{WriteFault}
+use Rattle.nb_lasting.specs.declared.guest.TheConstants.{LOOK_AFTER}
+use Rattle.nb_lasting.specs.declared.shared.Account.{Account}
 
--- a guest: the map that it is of, its number there, and the log that it knows: the calls of all
--- guests until its last call
+-- A guest: the map that it is of, its number there, and the log that it knows: the calls of all
+-- guests until its last call. It keeps account of each handle that it took, as that was then, and of
+-- its own one each time that it gave it back, the newest first. After so many new keys at the latest
+-- it looks whether the map is crowded.
 pub record GuestOf : Type 0 where
   pub of : TableId
   pub number : ℕ
   pub log : List Entry
+  pub account : Account
+  pub left : ℕ
+
+-- one that has called nothing yet
+abbrev pub new_guest_of : TableId → (number : ℕ) → GuestOf
+new_guest_of id number =
+    record { of = id; number = number; log = []; account = no_account; left = LOOK_AFTER }
 
 -- a map that guests share: which one it is, and how many guests it has
 pub record SharedOf : Type 0 where
@@ -51,6 +64,14 @@ abbrev pub GuestHasMatched : Call → (before after : GuestOf) → Bool → Type
 GuestHasMatched call before after matched =
     (reply : Reply) × (reply.matched ≡ matched) × GuestHasReplied call before after reply
 
+-- Its own handle made this one `get`, and it took none else. So it is wait-free but for the time that
+-- another has its handle.
+pub record GuestHasRead (key : ℕ) (before after : GuestOf) (found : Option ℕ) : Type 0 where
+  pub visited :
+      HasVisited before.number (λ there back. HasGot there.map key there.seat back.seat found)
+      before.account after.account
+  pub left : after.left ≡ before.left
+
 -- the call is refused, for a reason that holds of the map that the log leaves, and isn't made
 pub record GuestIsRefused (call : Call) (before after : GuestOf) (fault : WriteFault) :
     Type 0 where
@@ -66,7 +87,7 @@ pub record HaveCome (n : ℕ) (shared : SharedOf) (guests : List GuestOf) : Type
   pub of : All (λ guest. guest.of ≡ shared.id) guests
   pub each :
       (i : ℕ) (guest : GuestOf) → slice_get guests i ≡ Some guest
-      → guest ≡ record { of = shared.id; number = i; log = [] }
+      → guest ≡ new_guest_of shared.id i
 
 -- they are all guests of the map, in their order
 pub record AreAllGuests (shared : SharedOf) (guests : List GuestOf) : Type 0 where

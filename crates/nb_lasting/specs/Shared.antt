@@ -15,6 +15,8 @@ use Rattle.nb_map.specs.Handles.{HandleOf}
 use Rattle.nb_map.specs.Logs.{log}
 use Rattle.nb_map.specs.Maps.{MapOf, SeatOf}
 use Rattle.nb_lasting.specs.Epochs.{HasGoneOnBy}
+use Rattle.nb_lasting.specs.Visits.{gave, no_account, took}
+use Rattle.nb_lasting.specs.declared.shared.Account.{Account}
 use Rattle.nb_lasting.specs.declared.shared.Out.{Out}
 use Rattle.nb_lasting.specs.declared.shared.LaneView.{LaneView}
 
@@ -158,6 +160,8 @@ pub record HasTaken (lane : ℕ) (before after : Me (Option HandleOf) LaneView) 
       × (after.0.dealer ≡ before.0.dealer)
   -- a guest that takes its own lane's handle has seen what it knows
   pub mine : before.0.guest ≡ Some lane → IsCurrent lane before.0.seen knew
+  -- it is in the account
+  pub account : after.0.account ≡ took handle before.0.account
   -- who had others still has them, of the same map
   pub same :
       before.0.outs ≢ []
@@ -185,9 +189,9 @@ pub record Holds (lane : ℕ) (knew whole : List Event) (handle : HandleOf)
   pub one : IsLane me.0.map lane handle
   pub knows : KnowsIn me.0.filled me.0.past handle.seat whole
 
--- what it knows when it has given that back, and has seen this log
-abbrev pub given : LaneView → List Out → (seen : List Event) → LaneView
-given v outs seen = record v { outs = outs; seen = seen }
+-- what it knows when it has given that back, and has seen this log, with this account
+abbrev pub given : LaneView → List Out → (seen : List Event) → Account → LaneView
+given v outs seen account = record v { outs = outs; seen = seen; account = account }
 
 -- the lanes are out, and what they knew is this log now
 abbrev pub all_knew : List Event → List Out → List Out
@@ -239,6 +243,12 @@ log_in [] = []
 log_in ((lane, None) ∷ slots) = []
 log_in ((lane, Some handle) ∷ slots) = log handle.seat
 
+-- the account of a guest that gave that handle back
+abbrev pub account_in : List (ℕ × Option HandleOf) → Account → Account
+account_in [] account = account
+account_in ((lane, None) ∷ slots) account = account
+account_in ((lane, Some handle) ∷ slots) account = gave handle account
+
 -- the lanes that are out but for the one taken last
 abbrev pub rest_outs : List Out → List Out
 rest_outs [] = []
@@ -247,7 +257,9 @@ rest_outs (out ∷ outs) = outs
 -- a guest gives its handle back, and has seen all that this knows
 abbrev pub HasGiven : (before after : Me (Option HandleOf) LaneView) → Type 0
 HasGiven before after =
-    (after.0 ≡ given before.0 (rest_outs before.0.outs) (known_in before.0 before.1))
+    (after.0
+    ≡ given before.0 (rest_outs before.0.outs) (known_in before.0 before.1)
+    (account_in before.1 before.0.account))
     × (after.1 ≡ rest before.1)
 
 abbrev pub Gives :
@@ -257,7 +269,8 @@ Gives step before found after = HasGiven before after
 -- a handle of the same map is given back after a renewal
 abbrev pub HasDealt : (before after : Me (Option HandleOf) LaneView) → Type 0
 HasDealt before after =
-    (after.0 ≡ given before.0 (rest_outs before.0.outs) before.0.seen) × (after.1 ≡ rest before.1)
+    (after.0 ≡ given before.0 (rest_outs before.0.outs) before.0.seen before.0.account)
+    × (after.1 ≡ rest before.1)
 
 abbrev pub Deals :
     Step (Option HandleOf) → Me (Option HandleOf) LaneView → ℕ → Me (Option HandleOf) LaneView → Type 0
@@ -306,6 +319,7 @@ first_lane_view p = record {
   filled = [];
   past = [];
   outs = [];
+  account = no_account;
 }
 
 -- it makes one, which has the next lane
@@ -325,6 +339,7 @@ new_guest v = record {
   filled = [];
   past = [];
   outs = [];
+  account = no_account;
 }
 
 -- ---- a token takes the place of another
@@ -343,6 +358,7 @@ nobody = record {
   filled = [];
   past = [];
   outs = [];
+  account = no_account;
 }
 
 -- ---- a guest's place goes on to another token
@@ -361,4 +377,5 @@ guest_alone v = record {
   filled = [];
   past = [];
   outs = [];
+  account = no_account;
 }

@@ -5,7 +5,7 @@ ghost use Rattle.nb_core.specs.Calls.{Fills};
 ghost use Rattle.nb_core.specs.Log.{IsReplayed, log_of, map_of_log, reply_at};
 ghost use Rattle.nb_core.specs.declared.calls.Call.TheVariants as call;
 ghost use Rattle.nb_map.specs.NamedCalls.{add_of, put_if_absent_of, put_of, remove_if_of, remove_of, replace_if_of, replace_of};
-ghost use Rattle.nb_lasting.specs.Guests.{GuestHasCalled, GuestHasFound, GuestHasMatched, GuestHasReplied, GuestIsRefused};
+ghost use Rattle.nb_lasting.specs.Guests.{GuestHasCalled, GuestHasFound, GuestHasMatched, GuestHasRead, GuestHasReplied, GuestIsRefused};
 ghost use Rattle.nb_lasting.specs.Holding.{IsIdleGuest};
 ghost use Rattle.nb_lasting.specs.Lasting.{IsNewKey, as_write_fault};
 ghost use Rattle.nb_lasting.specs.inside.Guests.{GuestHasTried, HasWrittenHere, NeverOverflows};
@@ -75,9 +75,10 @@ impl Guest {
         token
     }
 
-    /// What the map has at a key.
+    /// What the map has at a key. It takes its handle once, for one `get` by it.
     pub fn get<R: Wait>(&mut self, rt: &R, key: Key) -> Option<Num>
-        ensures { GuestHasReplied (call.Get key) self.old self.new (reply_at (call.Get key) result) }
+        ensures replied { GuestHasReplied (call.Get key) self.old self.new (reply_at (call.Get key) result) }
+        ensures read { GuestHasRead key self.old self.new result }
     {
         get_through(rt, &self.hall.table.shared, &mut self.token, self.lane, key)
     }

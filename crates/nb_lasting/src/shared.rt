@@ -14,7 +14,9 @@
 //! in turn (`become_guest`), and its lane: so it learns that what each has seen goes on to the one log. Where all guests settle it does
 //! the same, and hands each place on (`hand_on`) to the guest's own token.
 //!
-//! What is left: no clause bounds a call's steps where no renewal comes between.
+//! Each token keeps account of the handles that it takes, and of those that its guest gives back: so a get is bound to one handle's get.
+//!
+//! What is left: no clause bounds a write's steps where no renewal comes between.
 ghost use Rattle.std.specs.Prelude.{[], Some, ℕ, ◌≡◌, ◌≢◌, ◌*◌, ◌<◌, ◌≤◌, true, false};
 ghost use Rattle.nb_lasting.specs.Shared.{HasBegunAnew, HasDealt, HasGiven, HasTaken, FitsLanes, as_guest, dealer_left, guest_alone, guest_left, new_guest};
 ghost use Rattle.nb_lasting.specs.Holding.{CanDeal, CanGive, CanRenew};
@@ -40,9 +42,16 @@ pub struct Out {
     pub knew: LinkedList<Event>,
 }
 
+/// The handles that a token took, each as it was then, and its guest's own one each time that the
+/// guest gave it back after its calls, the newest first. No value of it is made.
+pub struct Account {
+    pub taken: LinkedList<Handle>,
+    pub returned: LinkedList<Handle>,
+}
+
 /// What a token knows. A guest has its lane's number, and what it has seen. One token makes guests,
 /// and knows how many there are. Who has handles knows the map that they are of, and what the map
-/// went on from. No value of it is made.
+/// went on from. It keeps account of the handles that it took. No value of it is made.
 pub struct LaneView {
     pub guest: Option<usize>,
     pub dealer: Option<usize>,
@@ -51,6 +60,7 @@ pub struct LaneView {
     pub filled: LinkedList<Event>,
     pub past: LinkedList<Event>,
     pub outs: LinkedList<Out>,
+    pub account: Account,
 }
 
 pub(crate) struct Lanes;

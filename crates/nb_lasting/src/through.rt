@@ -2,7 +2,9 @@
 ghost use Rattle.std.specs.Prelude.{[], ◌∷◌, ◌*◌, ◌≡◌, ◌<◌, ◌≤◌};
 ghost use Rattle.nb_core.specs.Log.{reply_at};
 ghost use Rattle.nb_core.specs.declared.calls.Call.TheVariants as call;
+ghost use Rattle.nb_map.specs.Promises.{HasGot};
 ghost use Rattle.nb_lasting.specs.Holding.{HasCalledIn, HasWrittenIn, IsIdleGuest};
+ghost use Rattle.nb_lasting.specs.Visits.{HasVisited};
 
 use crate::shared::{Row, Token, give, hold};
 use nb_core::{Change, Key, Num, Reply, Want};
@@ -27,6 +29,8 @@ pub(crate) fn get_through<R: Wait>(
     ensures idle { IsIdleGuest lane token.new.me }
     ensures called { HasCalledIn lane token.old.me.0 token.new.me.0
         ((call.Get key, reply_at (call.Get key) result) ∷ []) }
+    ensures visited { HasVisited lane (λ there back. HasGot there.map key there.seat back.seat result)
+        token.old.me.0.account token.new.me.0.account }
 {
     hold(rt, row, token, lane);
     let Some(handle) = token.slot_mut(row, lane) else {

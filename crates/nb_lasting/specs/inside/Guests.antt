@@ -19,6 +19,8 @@ guest_of c = record {
   of = (arc_value c.hall).table.shared.table_id;
   number = c.lane;
   log = log_of c.token.me.0.seen;
+  account = c.token.me.0.account;
+  left = c.left;
 }
 
 -- its token is of the table, and has no handle out; and what it knows is replayed

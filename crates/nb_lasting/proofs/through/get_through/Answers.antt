@@ -1,8 +1,9 @@
 use Rattle.std.proofs.Common.{◌∙◌, [], ◌∷◌, Some, true, refl, subst, sym}
 use Rattle.nb_core.specs.declared.calls.Call.TheVariants.{Get}
-use Rattle.nb_map.specs.Handles.{KeepsRest}
+use Rattle.nb_map.specs.Handles.{HandleOf, KeepsRest}
 use Rattle.nb_map.specs.Logs.{HasLogged}
-use Rattle.nb_lasting.proofs.Calling.{can-give, has-called, idle-again, slot-rest, taken-is}
+use Rattle.nb_map.specs.Promises.{HasGot}
+use Rattle.nb_lasting.proofs.Calling.{can-give, has-called, idle-again, slot-rest, taken-is, visited}
 use Rattle.nb_lasting.proofs.through.get_through.Goals as goal
 
 pub slot_mut-requires : goal.slot_mut-requires
@@ -42,6 +43,14 @@ returns g c =
           ((Get c.args.key, record { before = c.get-found.result; matched = true }) ∷ [])
           c.requires.idle keeps logged _ refl c.give.new.token.me
           c.give.ensures.given;
+      visited = visited c.args.lane c.args.token.now.me c.hold.new.token.me
+          c.hold.ensures.taken c.get-found.new.self
+          ((Get c.args.key, record { before = c.get-found.result; matched = true }) ∷ [])
+          c.requires.idle keeps logged _ refl c.give.new.token.me c.give.ensures.given
+          (λ there back. HasGot there.map c.args.key there.seat back.seat c.get-found.result)
+          (subst (λ (h : HandleOf).
+          HasGot h.map c.args.key h.seat c.get-found.new.self.seat c.get-found.result) (sym same)
+          c.get-found.ensures.got);
       called = has-called c.args.lane c.args.token.now.me c.hold.new.token.me
           c.hold.ensures.taken c.get-found.new.self
           ((Get c.args.key, record { before = c.get-found.result; matched = true }) ∷ [])

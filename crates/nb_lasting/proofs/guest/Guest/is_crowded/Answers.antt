@@ -11,6 +11,8 @@ returns g c =
       of = (guest_of c.self.inside).of;
       number = c.self.inside.lane;
       log = log_of c.crowded_through.new.token.me.0.seen;
+      account = c.crowded_through.new.token.me.0.account;
+      left = c.self.inside.left;
     } in
     subst (λ (guest : GuestOf). GuestHasCalled guest after []) c.self.view_is
     (called_through (guest_of c.self.inside) after c.self.inside.token.me.0

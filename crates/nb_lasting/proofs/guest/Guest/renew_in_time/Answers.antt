@@ -11,6 +11,7 @@ returns-then-self-gt0 g c =
 
 pub returns-then-is_crowded : goal.returns-then-is_crowded
 returns-then-is_crowded g c =
+    let looked = c.is_crowded.ensures in
     then-first c.args.self.now c.is_crowded.new.self c.renew.new.self []
     (subst (λ (guest : GuestOf). GuestHasCalled guest c.is_crowded.new.self []) c.self.view_is
-    c.is_crowded.ensures) c.renew.ensures
+    (record { of = looked.of; number = looked.number; log = looked.log })) c.renew.ensures

@@ -5,6 +5,7 @@ use Rattle.nb_map.specs.Handles.{HandleOf}
 use Rattle.std.specs.Prelude.{Option}
 use Rattle.nb_lasting.specs.Guests.{GuestOf, with_log}
 use Rattle.nb_lasting.specs.Settling.{CanSettle}
+use Rattle.nb_lasting.specs.declared.shared.Account.{Account}
 use Rattle.nb_lasting.specs.declared.shared.LaneView.{LaneView}
 use Rattle.nb_lasting.specs.inside.Guests.{guest_of}
 use Rattle.nb_lasting.proofs.Settled.{handed-settle, settled-replayed, taken-settle}
@@ -44,10 +45,16 @@ invariant_of-self c =
 
 pub returns-clause-settled : goal.returns-clause-settled
 returns-clause-settled c =
+    let after = λ (log : List Entry) (account : Account).
+    record (guest_of c.self.inside) { log = log; account = account } in
+    let then = c.become_guest-2.new.token.me.0 in
+    let kept : then.account ≡ c.self.inside.token.me.0.account =
+    ap (λ (m : Me (Option HandleOf) LaneView). m.0.account) c.become_guest-2.ensures.guest
+    ∙ ap (λ (m : Me (Option HandleOf) LaneView). m.0.account) c.hand_on-own.ensures.left in
     subst (λ (guest : GuestOf). (whole : List Entry)
     → CanSettle whole (guest.number + 1) c.args.token.now.me c.args.handles.now.items
     → CanSettle whole guest.number c.hand_on-own-2.new.token.me c.give_last.new.handles.items
-    × (with_log (log_of c.become_guest-2.new.token.me.0.seen) (guest_of c.self.inside) ≡ with_log whole guest))
+    × (after (log_of then.seen) then.account ≡ with_log whole guest))
     c.self.view_is
     (λ whole can.
     let taken = taken-settle whole (c.self.inside.lane + 1) c.args.token.now.me
@@ -59,5 +66,5 @@ returns-clause-settled c =
     ∙ ap (λ (m : Me (Option HandleOf) LaneView). log_of m.0.seen) c.hand_on-own-2.ensures.guest in (
       handed-settle whole c.self.inside.lane c.give_last.new.token.me c.hand_on-own-2.new.token.me
           c.give_last.new.handles.items c.hand_on-own-2.ensures.left given.0,
-      ap (λ (l : List Entry). with_log l (guest_of c.self.inside)) (seen ∙ given.1),
+      ap (λ (l : List Entry). after l then.account) (seen ∙ given.1) ∙ ap (after whole) kept,
     ))

@@ -13,6 +13,8 @@ returns g c =
       of = (guest_of c.self.inside).of;
       number = c.self.inside.lane;
       log = log_of c.write_through.new.token.me.0.seen;
+      account = c.write_through.new.token.me.0.account;
+      left = c.self.inside.left;
     } in
     let call = Write c.args.key c.args.want.now c.args.change.now in
     subst (λ (guest : GuestOf). HasWrittenHere call guest after c.write_through.result) c.self.view_is

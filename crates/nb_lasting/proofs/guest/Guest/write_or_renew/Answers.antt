@@ -12,6 +12,8 @@ returns g c =
       of = (guest_of c.self.inside).of;
       number = c.self.inside.lane;
       log = log_of c.write_or_renew.new.token.me.0.seen;
+      account = c.write_or_renew.new.token.me.0.account;
+      left = c.self.inside.left;
     } in
     let call = Write c.args.key c.args.want.now c.args.change.now in
     subst (λ (guest : GuestOf). GuestHasTried call guest after c.write_or_renew.result) c.self.view_is
