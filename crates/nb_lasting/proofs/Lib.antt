@@ -3,6 +3,8 @@ pub mod Epochs
 pub mod Sharing
 pub mod Joined
 pub mod Merging
+pub mod Grown
+pub mod Working
 pub mod Closed
 pub mod Visiting
 pub mod Renewed

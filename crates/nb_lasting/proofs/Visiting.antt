@@ -1,6 +1,6 @@
 -- A guest's calls, one after another.
 use Rattle.std.proofs.Common.{◌≡◌, ◌∙◌, ◌++◌, ◌∷◌, arith, [], ℕ, List, All, ap, refl, subst, sym}
-use Rattle.std.specs.Prelude.{Err, IfErr, None, Ok, Option, Result, Some}
+use Rattle.std.specs.Prelude.{Err, IfErr, IfOk, None, Ok, Option, Result, Some}
 use Rattle.std.specs.Result.{IsErrAnd}
 use Rattle.std.proofs.lemmas.List.{append-nil}
 use Rattle.nb_core.specs.Log.{Entry, IsReplayed, calls_of, log_of, map_of_log}
@@ -10,7 +10,7 @@ use Rattle.nb_map.specs.Ending.{EndedOf, map_left}
 use Rattle.nb_lasting.proofs.Dealt.{there_is}
 use Rattle.nb_lasting.proofs.Epochs.{goes_on}
 use Rattle.nb_lasting.specs.Epochs.{HasGoneOnBy}
-use Rattle.nb_lasting.specs.Guests.{GoesOnTo, GuestHasCalled, GuestIsRefused, GuestOf, HaveCalled, HaveCome, HaveEnded, IsOneLogOf, OneLogOfGuests, SharedOf}
+use Rattle.nb_lasting.specs.Guests.{GoesOnTo, GuestHasCalled, GuestHasReplied, GuestIsRefused, GuestOf, HaveCalled, HaveCome, HaveEnded, IsOneLogOf, OneLogOfGuests, SharedOf}
 use Rattle.nb_lasting.specs.Shared.{IsOfGuest}
 use Rattle.nb_lasting.specs.Lasting.{IsRefusedFor}
 use Rattle.nb_lasting.specs.declared.faults.WriteFault.{WriteFault}
@@ -108,6 +108,23 @@ then-tried call first middle last (Ok None) one two = then-first first middle la
 then-tried call first middle last (Ok (Some reply)) one two =
     then-first first middle last ((call, reply) ∷ []) one two
 then-tried call first middle last (Err fault) one two =
+    then-refused call first middle last fault one two
+
+-- the same of an answer
+pub then-wrote-if :
+    (call : Call) (first middle last : GuestOf) (result : Result Reply WriteFault)
+    → GuestHasCalled first middle [] → IfOk result (GuestHasReplied call middle last)
+    → IfOk result (GuestHasReplied call first last)
+then-wrote-if call first middle last (Ok reply) one two =
+    then-first first middle last ((call, reply) ∷ []) one two
+then-wrote-if call first middle last (Err fault) one two = tt
+
+pub then-refused-if :
+    (call : Call) (first middle last : GuestOf) (result : Result Reply WriteFault)
+    → GuestHasCalled first middle [] → IfErr result (GuestIsRefused call middle last)
+    → IfErr result (GuestIsRefused call first last)
+then-refused-if call first middle last (Ok reply) one two = tt
+then-refused-if call first middle last (Err fault) one two =
     then-refused call first middle last fault one two
 
 pub if-err : {A B : Type 0} (result : Result A B) (fault : B) (P : B → Type 0)

@@ -1,17 +1,20 @@
 -- A map without an end that guests share, each in a thread of its own: what their calls promise, and
 -- what holds at its end. It is told in words of calls alone.
 use Rattle.std.specs.FinMap as numbers
-use Rattle.std.specs.Prelude.{◌≡◌, ◌<◌, ◌∷◌, ◌++◌, ℕ, Bool, List, [], All, Option, Some, length, map, slice_get}
+use Rattle.std.specs.Prelude.{◌≡◌, ◌≢◌, ◌<◌, ◌≤◌, ◌+◌, ◌-◌, ◌^◌, ◌∷◌, ◌++◌, ◌⊎◌, ℕ, zero, suc, Bool, Err, Ok, Result, List, [], All, Option, Some, length, map, slice_get}
 use Rattle.atomic_table.specs.Seated.{TableId}
 use Rattle.nb_core.specs.Log.{Entry, IsReplayed, Numbers, calls_of, map_of_log}
 use Rattle.nb_core.specs.declared.calls.Call.{Call}
 use Rattle.nb_core.specs.declared.calls.Reply.{Reply}
 use Rattle.nb_map.specs.Ending.{EndedOf, map_left}
-use Rattle.nb_map.specs.Promises.{HasGot}
+use Rattle.nb_map.specs.Progress.{Tries}
+use Rattle.nb_map.specs.Promises.{HasGot, HasWritten, replied_or_refused}
+use Rattle.nb_map.specs.declared.faults.PutFault.TheVariants as put_fault
+use Rattle.nb_map.specs.declared.faults.PutFault.{PutFault}
 use Rattle.nb_lasting.specs.Epochs.{HasGoneOnBy}
 use Rattle.nb_lasting.specs.Lasting.{IsRefusedFor}
 use Rattle.nb_lasting.specs.Shared.{IsOfGuest}
-use Rattle.nb_lasting.specs.Visits.{HasVisited, no_account}
+use Rattle.nb_lasting.specs.Visits.{HasGrown, HasVisited, no_account}
 use Rattle.nb_lasting.specs.declared.faults.WriteFault.{WriteFault}
 use Rattle.nb_lasting.specs.declared.guest.TheConstants.{LOOK_AFTER}
 use Rattle.nb_lasting.specs.declared.shared.Account.{Account}
@@ -71,6 +74,40 @@ pub record GuestHasRead (key : ℕ) (before after : GuestOf) (found : Option ℕ
       HasVisited before.number (λ there back. HasGot there.map key there.seat back.seat found)
       before.account after.account
   pub left : after.left ≡ before.left
+
+-- By one visit its handle made this write, or was refused it: that is what came of it. It has as many
+-- tries as a number of 32 bits can say.
+abbrev pub HasTriedBy :
+    Call → (before : GuestOf) → (after : Account) → Result Reply PutFault → Type 0
+HasTriedBy call before after outcome =
+    HasVisited before.number
+    (λ there back. HasWritten there.map call there.seat back.seat (Tries (2 ^ 32 - 1))
+    (replied_or_refused outcome)) before.account after
+
+-- the handle's write was for nothing: it found its map full, or others came first each time
+abbrev pub IsUndone : Result Reply PutFault → Type 0
+IsUndone (Ok reply) = ⊥
+IsUndone (Err put_fault.ValueRange) = ⊥
+IsUndone (Err put_fault.Full) = Unit {0}
+IsUndone (Err put_fault.Contended) = Unit {0}
+
+-- Its first visit was this write by its own handle; and unless that was for nothing, its only one.
+pub record IsOfOneVisit (call : Call) (before after : GuestOf) : Type 0 where
+  pub outcome : Result Reply PutFault
+  pub then : Account
+  pub first : HasTriedBy call before then outcome
+  pub only : (after.account ≡ then) ⊎ (IsUndone outcome × HasGrown then after.account)
+
+-- how many such calls may come before the next look, once one that is due is made
+abbrev pub calls_left : ℕ → ℕ
+calls_left zero = LOOK_AFTER
+calls_left (suc n) = suc n
+
+-- How a write works. Where no look is due, it makes one write by its own handle, unless that is for
+-- nothing. A look is due in each 1,024th call at most.
+pub record GuestHasWorked (call : Call) (before after : GuestOf) : Type 0 where
+  pub once : before.left ≢ 0 → IsOfOneVisit call before after
+  pub left : calls_left before.left ≤ after.left + 1
 
 -- the call is refused, for a reason that holds of the map that the log leaves, and isn't made
 pub record GuestIsRefused (call : Call) (before after : GuestOf) (fault : WriteFault) :

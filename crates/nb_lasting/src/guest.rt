@@ -1,14 +1,15 @@
 //! A guest of a map without an end.
 ghost use Rattle.std.specs.FinMap as numbers;
-ghost use Rattle.std.specs.Prelude.{IfErr, IfOk, [], length, ◌≡◌};
+ghost use Rattle.std.specs.Prelude.{IfErr, IfOk, [], length, ℕ, ◌+◌, ◌≡◌, ◌≢◌, ◌≤◌};
 ghost use Rattle.nb_core.specs.Calls.{Fills};
 ghost use Rattle.nb_core.specs.Log.{IsReplayed, log_of, map_of_log, reply_at};
 ghost use Rattle.nb_core.specs.declared.calls.Call.TheVariants as call;
 ghost use Rattle.nb_map.specs.NamedCalls.{add_of, put_if_absent_of, put_of, remove_if_of, remove_of, replace_if_of, replace_of};
-ghost use Rattle.nb_lasting.specs.Guests.{GuestHasCalled, GuestHasFound, GuestHasMatched, GuestHasRead, GuestHasReplied, GuestIsRefused};
+ghost use Rattle.nb_lasting.specs.Guests.{GuestHasCalled, GuestHasFound, GuestHasMatched, GuestHasRead, GuestHasReplied, GuestHasWorked, GuestIsRefused, HasTriedBy, IsOfOneVisit, calls_left};
 ghost use Rattle.nb_lasting.specs.Holding.{IsIdleGuest};
 ghost use Rattle.nb_lasting.specs.Lasting.{IsNewKey, as_write_fault};
-ghost use Rattle.nb_lasting.specs.inside.Guests.{GuestHasTried, HasWrittenHere, NeverOverflows};
+ghost use Rattle.nb_lasting.specs.Visits.{HasGrown};
+ghost use Rattle.nb_lasting.specs.inside.Guests.{GuestHasTried, HasTriedFirst, HasWrittenHere, NeverOverflows, with_calls_left};
 
 use crate::counting::count_through;
 use crate::faults::{GrowFault, WriteFault};
@@ -94,14 +95,75 @@ impl Guest {
     ) -> Result<Reply, WriteFault>
         ensures wrote { IfOk result (GuestHasReplied (call.Write key want change) self.old self.new) }
         ensures refused { IfErr result (GuestIsRefused (call.Write key want change) self.old self.new) }
+        ensures worked { GuestHasWorked (call.Write key want change) self.old self.new }
     {
         self.renew_in_time(rt);
+        let reply = self.write(rt, key, &want, &change)?;
+        self.count(&reply);
+        Ok(reply)
+    }
+
+    /// Makes a write. It takes its handle once, unless the map is full, or others come first.
+    fn write<R: Wait>(
+        &mut self,
+        rt: &R,
+        key: Key,
+        want: &Want,
+        change: &Change,
+    ) -> Result<Reply, WriteFault>
+        ensures wrote { IfOk result
+            (GuestHasReplied (call.Write key want.now change.now) self.old self.new) }
+        ensures refused { IfErr result
+            (GuestIsRefused (call.Write key want.now change.now) self.old self.new) }
+        ensures once { IsOfOneVisit (call.Write key want.now change.now) self.old self.new }
+        ensures left { self.new.left ≡ self.old.left }
+    {
+        match self.try_write(rt, key, want, change) {
+            Ok(Some(reply)) => Ok(reply),
+            Ok(None) => self.write_on(rt, key, want, change),
+            Err(fault) => Err(fault),
+        }
+    }
+
+    /// Tries to make a write, until it is made or refused.
+    fn write_on<R: Wait>(
+        &mut self,
+        rt: &R,
+        key: Key,
+        want: &Want,
+        change: &Change,
+    ) -> Result<Reply, WriteFault>
+        ensures wrote { IfOk result
+            (GuestHasReplied (call.Write key want.now change.now) self.old self.new) }
+        ensures refused { IfErr result
+            (GuestIsRefused (call.Write key want.now change.now) self.old self.new) }
+        ensures grown { HasGrown self.old.account self.new.account }
+        ensures left { self.new.left ≡ self.old.left }
+    {
+        self.known();
         for _ in rt.forever() {
-            if let Some(reply) = self.try_write(rt, key, &want, &change)? {
+            if let Some(reply) = self.try_write(rt, key, want, change)? {
                 return Ok(reply);
             }
         }
         unreachable!()
+    }
+
+    /// A call that found no number brings the next look nearer.
+    fn count(&mut self, reply: &Reply)
+        ensures { (left : ℕ) × (self.new ≡ with_calls_left left self.old) × (self.old.left ≤ left + 1) }
+    {
+        // Guests may lie side by side: no store where none is needed.
+        if reply.before.is_none() {
+            self.set_left(self.left.saturating_sub(1));
+        }
+    }
+
+    /// Sets how many more calls may come before the next look.
+    fn set_left(&mut self, left: u32)
+        ensures { self.new ≡ with_calls_left left self.old }
+    {
+        self.left = left;
     }
 
     /// Makes a write, or else the map anew, where that is full; or others come first.
@@ -112,16 +174,14 @@ impl Guest {
         want: &Want,
         change: &Change,
     ) -> Result<Option<Reply>, WriteFault>
-        ensures { GuestHasTried (call.Write key want.now change.now) self.old self.new result }
+        ensures tried { GuestHasTried (call.Write key want.now change.now) self.old self.new
+            result }
+        ensures first { HasTriedFirst (call.Write key want.now change.now) self.old self.new
+            result }
+        ensures left { self.new.left ≡ self.old.left }
     {
         match self.write_here(rt, key, want, change) {
-            Ok(reply) => {
-                // Guests may lie side by side: no store where none is needed.
-                if reply.before.is_none() {
-                    self.left = self.left.saturating_sub(1);
-                }
-                Ok(Some(reply))
-            }
+            Ok(reply) => Ok(Some(reply)),
             Err(PutFault::ValueRange) => Err(WriteFault::ValueRange),
             Err(PutFault::Contended) => Ok(None),
             Err(PutFault::Full) => self.write_or_renew(rt, key, want, change),
@@ -137,7 +197,10 @@ impl Guest {
         change: &Change,
     ) -> Result<Option<Reply>, WriteFault>
         requires new_key { IsNewKey (call.Write key want.now change.now) (map_of_log self.old.log) }
-        ensures { GuestHasTried (call.Write key want.now change.now) self.old self.new result }
+        ensures tried { GuestHasTried (call.Write key want.now change.now) self.old self.new
+            result }
+        ensures grown { HasGrown self.old.account self.new.account }
+        ensures left { self.new.left ≡ self.old.left }
     {
         write_or_renew(
             rt,
@@ -158,7 +221,11 @@ impl Guest {
         want: &Want,
         change: &Change,
     ) -> Result<Reply, PutFault>
-        ensures { HasWrittenHere (call.Write key want.now change.now) self.old self.new result }
+        ensures wrote { HasWrittenHere (call.Write key want.now change.now) self.old self.new
+            result }
+        ensures visited { HasTriedBy (call.Write key want.now change.now) self.old
+            self.new.account result }
+        ensures left { self.new.left ≡ self.old.left }
     {
         write_through(
             rt,
@@ -176,6 +243,7 @@ impl Guest {
     pub fn size<R: Wait>(&mut self, rt: &R) -> Result<u64, OutOfMemory>
         ensures called { GuestHasCalled self.old self.new [] }
         ensures size { IfOk result (λ size. size ≡ length (numbers.entries (map_of_log self.new.log))) }
+        ensures left { self.new.left ≡ self.old.left }
     {
         count_through(rt, &self.hall, &mut self.token, self.lane)
     }
@@ -188,19 +256,22 @@ impl Guest {
 
     /// Whether more than two thirds of the last table are taken.
     fn is_crowded<R: Wait>(&mut self, rt: &R) -> bool
-        ensures { GuestHasCalled self.old self.new [] }
+        ensures called { GuestHasCalled self.old self.new [] }
+        ensures left { self.new.left ≡ self.old.left }
     {
         crowded_through(rt, &self.hall.table.shared, &mut self.token, self.lane)
     }
 
     /// Makes the map anew where it is crowded, and there is memory. It looks now and then.
     fn renew_in_time<R: Wait>(&mut self, rt: &R)
-        ensures { GuestHasCalled self.old self.new [] }
+        ensures called { GuestHasCalled self.old self.new [] }
+        ensures same { self.old.left ≢ 0 → self.new ≡ self.old }
+        ensures left { self.new.left ≡ calls_left self.old.left }
     {
         if self.left > 0 {
             return;
         }
-        self.left = LOOK_AFTER;
+        self.set_left(LOOK_AFTER);
         let renewals = self.hall.renewals.load(Ordering::SeqCst);
         if self.is_crowded(rt) {
             let _ = self.renew(rt, renewals);
@@ -210,7 +281,8 @@ impl Guest {
     /// Makes the map anew, with room for twice the keys that it has, unless it was made anew since
     /// there were so many renewals.
     fn renew<R: Wait>(&mut self, rt: &R, renewals: u64) -> Result<(), GrowFault>
-        ensures { GuestHasCalled self.old self.new [] }
+        ensures called { GuestHasCalled self.old self.new [] }
+        ensures left { self.new.left ≡ self.old.left }
     {
         renew_through(rt, &self.hall, &mut self.token, self.lane, renewals)
     }
@@ -227,6 +299,7 @@ impl Guest {
         ensures wrote { IfOk result (GuestHasReplied (call.Write key want change) self.old self.new) }
         ensures refused { IfErr result (λ fault. GuestIsRefused (call.Write key want change)
             self.old self.new (as_write_fault fault)) }
+        ensures worked { GuestHasWorked (call.Write key want change) self.old self.new }
     {
         match self.put_if_match(rt, key, want, change) {
             Ok(reply) => Ok(reply),
@@ -240,7 +313,8 @@ impl Guest {
     fn change<R: Wait>(&mut self, rt: &R, key: Key, want: Want, change: Change) -> Reply
         requires no_sum { NeverOverflows (call.Write key want change) }
         requires fills_none { Fills (call.Write key want change) → ⊥ }
-        ensures { GuestHasReplied (call.Write key want change) self.old self.new result }
+        ensures replied { GuestHasReplied (call.Write key want change) self.old self.new result }
+        ensures worked { GuestHasWorked (call.Write key want change) self.old self.new }
     {
         match self.set(rt, key, want, change) {
             Ok(reply) => reply,
@@ -253,6 +327,7 @@ impl Guest {
         ensures wrote { IfOk result (GuestHasFound (put_of key number) self.old self.new) }
         ensures refused { IfErr result (λ fault. GuestIsRefused (put_of key number) self.old self.new
             (as_write_fault fault)) }
+        ensures worked { GuestHasWorked (put_of key number) self.old self.new }
     {
         number.known();
         let reply = self.set(rt, key, Want::Any, Change::Put(number))?;
@@ -269,6 +344,7 @@ impl Guest {
         ensures wrote { IfOk result (GuestHasFound (put_if_absent_of key number) self.old self.new) }
         ensures refused { IfErr result (λ fault. GuestIsRefused (put_if_absent_of key number)
             self.old self.new (as_write_fault fault)) }
+        ensures worked { GuestHasWorked (put_if_absent_of key number) self.old self.new }
     {
         number.known();
         let reply = self.set(rt, key, Want::Absent, Change::Put(number))?;
@@ -279,6 +355,7 @@ impl Guest {
     pub fn add<R: Wait>(&mut self, rt: &R, key: Key, number: Num) -> Result<Option<Num>, WriteFault>
         ensures wrote { IfOk result (GuestHasFound (add_of key number) self.old self.new) }
         ensures refused { IfErr result (GuestIsRefused (add_of key number) self.old self.new) }
+        ensures worked { GuestHasWorked (add_of key number) self.old self.new }
     {
         let reply = self.put_if_match(rt, key, Want::Any, Change::Add(number))?;
         Ok(reply.before)
@@ -286,7 +363,8 @@ impl Guest {
 
     /// Puts a number at a key that has one, and answers what was there.
     pub fn replace<R: Wait>(&mut self, rt: &R, key: Key, number: Num) -> Option<Num>
-        ensures { GuestHasFound (replace_of key number) self.old self.new result }
+        ensures found { GuestHasFound (replace_of key number) self.old self.new result }
+        ensures worked { GuestHasWorked (replace_of key number) self.old self.new }
     {
         number.known();
         self.change(rt, key, Want::Present, Change::Put(number))
@@ -295,7 +373,8 @@ impl Guest {
 
     /// Puts a number in place of this one, and answers whether it did.
     pub fn replace_if<R: Wait>(&mut self, rt: &R, key: Key, old: Num, new: Num) -> bool
-        ensures { GuestHasMatched (replace_if_of key old new) self.old self.new result }
+        ensures matched { GuestHasMatched (replace_if_of key old new) self.old self.new result }
+        ensures worked { GuestHasWorked (replace_if_of key old new) self.old self.new }
     {
         new.known();
         self.change(rt, key, Want::Equal(old), Change::Put(new))
@@ -304,14 +383,16 @@ impl Guest {
 
     /// Takes out a key, and answers what was there.
     pub fn remove<R: Wait>(&mut self, rt: &R, key: Key) -> Option<Num>
-        ensures { GuestHasFound (remove_of key) self.old self.new result }
+        ensures found { GuestHasFound (remove_of key) self.old self.new result }
+        ensures worked { GuestHasWorked (remove_of key) self.old self.new }
     {
         self.change(rt, key, Want::Any, Change::Remove).before
     }
 
     /// Takes out a key that has this number, and answers whether it did.
     pub fn remove_if<R: Wait>(&mut self, rt: &R, key: Key, number: Num) -> bool
-        ensures { GuestHasMatched (remove_if_of key number) self.old self.new result }
+        ensures matched { GuestHasMatched (remove_if_of key number) self.old self.new result }
+        ensures worked { GuestHasWorked (remove_if_of key number) self.old self.new }
     {
         self.change(rt, key, Want::Equal(number), Change::Remove)
             .matched

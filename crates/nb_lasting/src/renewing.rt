@@ -9,6 +9,7 @@ ghost use Rattle.nb_lasting.specs.Holding.{HasCalledIn, HasTriedIn, IsIdleGuest,
 ghost use Rattle.nb_lasting.specs.Lasting.{IsNewKey};
 ghost use Rattle.nb_lasting.specs.Renewal.{CanComeHome, CanDealAnew, CanDealBelow, HoldsBelow, HasRoomAnew, KnowOneLog, HoldsStill, IsFullAt, IsIdleToken, IsSameGuest};
 ghost use Rattle.nb_lasting.specs.Shared.{FitsLanes};
+ghost use Rattle.nb_lasting.specs.Visits.{HasGrown};
 ghost use Rattle.nb_lasting.specs.declared.faults.GrowFault.TheVariants as fault;
 
 use crate::faults::{GrowFault, WriteFault};
@@ -32,6 +33,7 @@ fn gather<R: Wait>(rt: &R, row: &Row, token: &mut Token, handles: &mut Vec<Handl
     requires holds { HoldsBelow lane token.old.me handles.old.items }
     ensures table { token.new.table_id ≡ token.old.table_id }
     ensures guest { IsSameGuest token.old.me.0 token.new.me.0 }
+    ensures grown { HasGrown token.old.me.0.account token.new.me.0.account }
     ensures room { vec_capacity handles.new ≡ vec_capacity handles.old }
     ensures seated { FitsLanes row.now.table_id.slots token.new.me.0 }
     ensures holds { HoldsBelow (lane + 1) token.new.me handles.new.items }
@@ -52,6 +54,7 @@ fn deal(row: &Row, token: &mut Token, handles: &mut Vec<Handle>, lane: usize)
     requires holds { CanDealBelow (lane + 1) token.old.me handles.old.items }
     ensures table { token.new.table_id ≡ token.old.table_id }
     ensures guest { IsSameGuest token.old.me.0 token.new.me.0 }
+    ensures account { token.new.me.0.account ≡ token.old.me.0.account }
     ensures map { token.new.me.0.map ≡ token.old.me.0.map }
     ensures holds { CanDealBelow lane token.new.me handles.new.items }
 {
@@ -71,6 +74,7 @@ fn deal_anew(row: &Row, token: &mut Token, handles: &mut Vec<Handle>, lane: usiz
     requires holds { CanDealAnew (lane + 1) token.old.me handles.old.items }
     ensures table { token.new.table_id ≡ token.old.table_id }
     ensures guest { IsSameGuest token.old.me.0 token.new.me.0 }
+    ensures account { token.new.me.0.account ≡ token.old.me.0.account }
     ensures map { (can : CanDealAnew (lane + 1) token.old.me handles.old.items)
         → token.new.me.0.map ≡ can.anew.shared }
     ensures holds { CanDealBelow lane token.new.me handles.new.items }
@@ -97,6 +101,7 @@ pub(crate) fn gather_all<R: Wait>(
     requires idle { IsIdleToken token.old.me }
     ensures table { token.new.table_id ≡ token.old.table_id }
     ensures guest { IsSameGuest token.old.me.0 token.new.me.0 }
+    ensures grown { HasGrown token.old.me.0.account token.new.me.0.account }
     ensures seated { IfOk result (λ handles. 1 ≤ seats
         → FitsLanes row.now.table_id.slots token.new.me.0) }
     ensures holds { IfOk result (λ handles. HoldsBelow seats token.new.me handles.items) }
@@ -118,6 +123,7 @@ pub(crate) fn deal_all(row: &Row, token: &mut Token, handles: Vec<Handle>)
     requires holds { CanDealBelow (length handles.items) token.old.me handles.items }
     ensures table { token.new.table_id ≡ token.old.table_id }
     ensures guest { IsSameGuest token.old.me.0 token.new.me.0 }
+    ensures account { token.new.me.0.account ≡ token.old.me.0.account }
     ensures map { token.new.me.0.map ≡ token.old.me.0.map }
     ensures idle { IsIdleToken token.new.me }
 {
@@ -137,6 +143,7 @@ fn come_home(row: &Row, token: &mut Token, handles: &mut Vec<Handle>, lane: usiz
     requires holds { (whole : List Entry)
         × CanComeHome own whole (lane + 1) token.old.me handles.old.items }
     ensures table { token.new.table_id ≡ token.old.table_id }
+    ensures grown { HasGrown token.old.me.0.account token.new.me.0.account }
     ensures holds { (whole : List Entry)
         → CanComeHome own whole (lane + 1) token.old.me handles.old.items
         → CanComeHome own whole lane token.new.me handles.new.items }
@@ -163,6 +170,7 @@ pub(crate) fn all_home(row: &Row, token: &mut Token, handles: Vec<Handle>, own: 
         × CanComeHome own whole (length handles.items) token.old.me handles.items }
     ensures table { token.new.table_id ≡ token.old.table_id }
     ensures idle { IsIdleGuest own token.new.me }
+    ensures grown { HasGrown token.old.me.0.account token.new.me.0.account }
     ensures seen { (whole : List Entry)
         → CanComeHome own whole (length handles.items) token.old.me handles.items
         → log_of token.new.me.0.seen ≡ whole }
@@ -184,6 +192,7 @@ fn deal_renewed(row: &Row, token: &mut Token, handles: Vec<Handle>)
     requires anew { CanDealAnew (length handles.items) token.old.me handles.items }
     ensures table { token.new.table_id ≡ token.old.table_id }
     ensures guest { IsSameGuest token.old.me.0 token.new.me.0 }
+    ensures account { token.new.me.0.account ≡ token.old.me.0.account }
     ensures map { (can : CanDealAnew (length handles.items) token.old.me handles.items)
         → token.new.me.0.map ≡ can.anew.shared }
     ensures idle { IsIdleToken token.new.me }
@@ -210,6 +219,7 @@ fn renew_all<R: Wait>(
     requires settled { KnowOneLog handles.items }
     ensures table { token.new.table_id ≡ token.old.table_id }
     ensures guest { IsSameGuest token.old.me.0 token.new.me.0 }
+    ensures account { token.new.me.0.account ≡ token.old.me.0.account }
     ensures idle { IsIdleToken token.new.me }
     ensures anew { OnOk result (token.new.me.0.map.chain.shape ≡ shape) }
     ensures full { result ≡ Err renew_fault.Full → HaveTooMany shape handles.items }
@@ -238,6 +248,7 @@ pub(crate) fn renew_counted<R: Wait>(
     requires holds { HoldsStill hall.now.table.shared.key.seats token.old.me handles.items }
     ensures table { token.new.table_id ≡ token.old.table_id }
     ensures idle { IsIdleGuest own token.new.me }
+    ensures grown { HasGrown token.old.me.0.account token.new.me.0.account }
     ensures called { HasCalledIn own token.old.me.0 token.new.me.0 [] }
     ensures anew { OnOk result (HasRoomAnew hall.now.least own token.old.me.0 token.new.me.0) }
     ensures kept { result ≡ Err fault.OutOfMemory → token.new.me.0.seen ≡ token.old.me.0.seen }
@@ -308,6 +319,7 @@ pub(crate) fn write_or_renew<R: Wait>(
         (map_of_log (log_of token.old.me.0.seen)) }
     ensures table { token.new.table_id ≡ token.old.table_id }
     ensures idle { IsIdleGuest own token.new.me }
+    ensures grown { HasGrown token.old.me.0.account token.new.me.0.account }
     ensures tried { HasTriedIn own token.old.me.0 token.new.me.0
         (call.Write key want.now change.now) result }
 {

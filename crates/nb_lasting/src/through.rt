@@ -1,8 +1,9 @@
 //! Calls through a lane, and looks at the map: a guest takes its handle, calls, and gives it back.
-ghost use Rattle.std.specs.Prelude.{[], ◌∷◌, ◌*◌, ◌≡◌, ◌<◌, ◌≤◌};
+ghost use Rattle.std.specs.Prelude.{[], ◌∷◌, ◌*◌, ◌≡◌, ◌<◌, ◌≤◌, ◌^◌, ◌-◌};
 ghost use Rattle.nb_core.specs.Log.{reply_at};
 ghost use Rattle.nb_core.specs.declared.calls.Call.TheVariants as call;
-ghost use Rattle.nb_map.specs.Promises.{HasGot};
+ghost use Rattle.nb_map.specs.Progress.{Tries};
+ghost use Rattle.nb_map.specs.Promises.{HasGot, HasWritten, replied_or_refused};
 ghost use Rattle.nb_lasting.specs.Holding.{HasCalledIn, HasWrittenIn, IsIdleGuest};
 ghost use Rattle.nb_lasting.specs.Visits.{HasVisited};
 
@@ -61,6 +62,9 @@ pub(crate) fn write_through<R: Wait>(
     ensures idle { IsIdleGuest lane token.new.me }
     ensures called { HasWrittenIn lane token.old.me.0 token.new.me.0
         (call.Write key want.now change.now) result }
+    ensures visited { HasVisited lane (λ there back. HasWritten there.map
+        (call.Write key want.now change.now) there.seat back.seat (Tries (2 ^ 32 - 1))
+        (replied_or_refused result)) token.old.me.0.account token.new.me.0.account }
 {
     hold(rt, row, token, lane);
     let Some(handle) = token.slot_mut(row, lane) else {

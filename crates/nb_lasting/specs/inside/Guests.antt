@@ -1,16 +1,18 @@
 -- What is in a guest, and in a map that guests share, and what their private calls promise.
 use Rattle.std.specs.Arc.{arc_value}
-use Rattle.std.specs.Prelude.{◌≡◌, ◌≢◌, ◌<◌, ◌≤◌, [], true, Err, Ok, Option, None, Some, Result, vec_capacity}
+use Rattle.std.specs.Prelude.{ℕ, ◌≡◌, ◌≢◌, ◌<◌, ◌≤◌, [], true, Err, Ok, Option, None, Some, Result, vec_capacity}
 use Rattle.nb_core.specs.Calls.{overflows}
 use Rattle.nb_core.specs.Log.{IsReplayed, Numbers, log_of}
 use Rattle.nb_core.specs.declared.calls.Call.{Call}
 use Rattle.nb_core.specs.declared.calls.Reply.{Reply}
 use Rattle.nb_map.specs.declared.faults.PutFault.{PutFault}
-use Rattle.nb_lasting.specs.Guests.{GuestHasCalled, GuestHasReplied, GuestIsRefused, GuestOf, SharedOf}
+use Rattle.nb_lasting.specs.Guests.{GuestHasCalled, GuestHasReplied, IsOfOneVisit, GuestIsRefused, GuestOf, HasTriedBy, IsUndone, SharedOf}
 use Rattle.nb_lasting.specs.Holding.{IsIdleGuest, IsJustIn}
 use Rattle.nb_lasting.specs.Renewal.{IsIdleToken}
 use Rattle.nb_lasting.specs.declared.faults.WriteFault.{WriteFault}
+use Rattle.nb_lasting.specs.Visits.{HasGrown}
 use Rattle.nb_lasting.specs.declared.guest.Guest.TheInside as guest
+use Rattle.nb_lasting.specs.declared.shared.Account.{Account}
 use Rattle.nb_lasting.specs.declared.shared_lasting.SharedLasting.TheInside as shared
 
 -- the guest, as contracts see it
@@ -52,6 +54,25 @@ abbrev pub GuestHasTried :
 GuestHasTried call before after (Ok None) = GuestHasCalled before after []
 GuestHasTried call before after (Ok (Some reply)) = GuestHasReplied call before after reply
 GuestHasTried call before after (Err fault) = GuestIsRefused call before after fault
+
+-- its first visit was for nothing, and it went on
+pub record GuestHasBegun (call : Call) (before after : GuestOf) : Type 0 where
+  pub outcome : Result Reply PutFault
+  pub then : Account
+  pub first : HasTriedBy call before then outcome
+  pub undone : IsUndone outcome
+  pub grown : HasGrown then after.account
+
+-- so it was where it isn't made yet
+abbrev pub HasTriedFirst :
+    Call → (before after : GuestOf) → Result (Option Reply) WriteFault → Type 0
+HasTriedFirst call before after (Ok None) = GuestHasBegun call before after
+HasTriedFirst call before after (Ok (Some reply)) = IsOfOneVisit call before after
+HasTriedFirst call before after (Err fault) = IsOfOneVisit call before after
+
+-- the guest, with so many calls left till it looks
+abbrev pub with_calls_left : ℕ → GuestOf → GuestOf
+with_calls_left left guest = record guest { left = left }
 
 -- it was made on the map that is there, or refused
 abbrev pub HasWrittenHere : Call → (before after : GuestOf) → Result Reply PutFault → Type 0

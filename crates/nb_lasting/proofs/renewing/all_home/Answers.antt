@@ -1,8 +1,9 @@
-use Rattle.std.proofs.Common.{◌≡◌, ◌∙◌, ◌+◌, List, length, subst, sym, arith}
+use Rattle.std.proofs.Common.{◌≡◌, ◌∙◌, ◌+◌, List, length, refl, subst, sym, arith}
 use Rattle.std.specs.Prelude.{◌-◌}
 use Rattle.nb_core.specs.Log.{Entry}
 use Rattle.nb_lasting.specs.Renewal.{CanComeHome}
 use Rattle.nb_lasting.proofs.Counted.{home-all}
+use Rattle.nb_lasting.proofs.Grown.{grown-none, grown-then}
 use Rattle.nb_lasting.proofs.renewing.all_home.Goals as goal
 
 pub come_home-requires-clause-holds : goal.come_home-requires-clause-holds
@@ -14,6 +15,14 @@ come_home-requires-clause-holds c =
           c.loop-done.handles.items) (sym n)
           (c.loop-done.invariant.holds c.requires.holds.0 c.requires.holds.1),
     )
+
+pub loop-done-init : goal.loop-done-init
+loop-done-init c = record {
+  table = refl;
+  count = omega arith;
+  grown = grown-none c.args.token.now.me.0.account;
+  holds = λ whole can. can;
+}
 
 pub loop-done-preserved : goal.loop-done-preserved
 loop-done-preserved c =
@@ -29,6 +38,8 @@ loop-done-preserved c =
     record {
       table = c.come_home.ensures.table ∙ c.loop-done.invariant.table;
       count = omega (arith, left, n, c.loop-done.invariant.count);
+      grown = grown-then c.args.token.now.me.0.account c.loop-done.token.me.0.account
+          c.come_home.new.token.me.0.account c.loop-done.invariant.grown c.come_home.ensures.grown;
       holds = λ whole can.
           subst (λ k. CanComeHome c.args.own whole k c.come_home.new.token.me
           c.come_home.new.handles.items) (sym left) (step whole can);

@@ -4,6 +4,7 @@ use Rattle.nb_lasting.specs.Renewal.{HoldsStill}
 use Rattle.nb_lasting.specs.inside.Present.{HasSlots}
 use Rattle.nb_lasting.proofs.Counted.{called-home, can-come-home, full-home, nothing-seen, one-log, room-anew, room-left, still-by, still-holds}
 use Rattle.nb_lasting.proofs.Dealt.{still-dealt, still-single}
+use Rattle.nb_lasting.proofs.Grown.{grown-same}
 use Rattle.nb_lasting.proofs.renewing.renew_counted.Goals as goal
 
 pub counted-handles-requires : goal.counted-handles-requires
@@ -142,6 +143,8 @@ returns-in-Err g c = record {
     slots = c.renew_all.ensures.idle.slots;
   };
   anew = tt;
+  grown = grown-same c.args.token.now.me.0.account c.renew_all.new.token.me.0.account
+      c.renew_all.ensures.account;
   called = nothing-seen c.args.own c.args.token.now.me.0 c.renew_all.new.token.me.0
       c.renew_all.ensures.guest.seen c.requires.replayed;
   kept = λ _. c.renew_all.ensures.guest.seen;

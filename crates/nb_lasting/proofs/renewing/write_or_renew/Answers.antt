@@ -7,6 +7,7 @@ use Rattle.nb_lasting.specs.Lasting.{as_write_fault}
 use Rattle.nb_lasting.specs.Renewal.{HoldsStill}
 use Rattle.nb_lasting.specs.Shared.{known_of}
 use Rattle.nb_lasting.proofs.Counted.{called-from}
+use Rattle.nb_lasting.proofs.Grown.{grown-then}
 use Rattle.nb_lasting.proofs.Written.{full-crowded, full-still, is-err, refused-so, tried-so, wrote-home, wrote-since}
 use Rattle.nb_lasting.proofs.renewing.write_or_renew.Goals as goal
 
@@ -99,3 +100,18 @@ returns-clause-tried g c =
     (wrote-since n c.args.own me before after call result holds some guest below wrote
     c.args.token.now.me.0 c.gather_all.ensures.guest.seen c.all_home.new.token.me.0
     c.all_home.ensures.seen))
+
+pub returns-in_err-renew_counted-clause-grown : goal.returns-in_err-renew_counted-clause-grown
+returns-in_err-renew_counted-clause-grown g c =
+    grown-then c.args.token.now.me.0.account c.gather_all.new.token.me.0.account
+    c.renew_counted.new.token.me.0.account c.gather_all.ensures.grown c.renew_counted.ensures.grown
+
+pub returns-clause-grown : goal.returns-clause-grown
+returns-clause-grown g c =
+    grown-then c.args.token.now.me.0.account c.gather_all.new.token.me.0.account
+    c.all_home.new.token.me.0.account c.gather_all.ensures.grown c.all_home.ensures.grown
+
+pub returns-then-found_full-clause-grown : goal.returns-then-found_full-clause-grown
+returns-then-found_full-clause-grown g c =
+    grown-then c.args.token.now.me.0.account c.gather_all.new.token.me.0.account
+    c.renew_counted.new.token.me.0.account c.gather_all.ensures.grown c.renew_counted.ensures.grown

@@ -1,8 +1,11 @@
-use Rattle.std.proofs.Common.{◌∙◌, Some, refl, subst, sym}
-use Rattle.nb_map.specs.Handles.{KeepsRest}
+use Rattle.std.proofs.Common.{◌∙◌, ◌^◌, Some, refl, subst, sym}
+use Rattle.std.specs.Prelude.{◌-◌}
+use Rattle.nb_map.specs.Handles.{HandleOf, KeepsRest}
 use Rattle.nb_map.specs.Logs.{HasLogged, made_in}
+use Rattle.nb_map.specs.Progress.{Tries}
+use Rattle.nb_map.specs.Promises.{HasWritten, replied_or_refused}
 use Rattle.nb_core.specs.declared.calls.Call.TheVariants.{Write}
-use Rattle.nb_lasting.proofs.Calling.{can-give, has-called, idle-again, map-is, slot-rest, taken-is, write-logged}
+use Rattle.nb_lasting.proofs.Calling.{can-give, has-called, idle-again, map-is, slot-rest, taken-is, visited, write-logged}
 use Rattle.nb_lasting.proofs.through.write_through.Goals as goal
 
 pub slot_mut-requires : goal.slot_mut-requires
@@ -49,6 +52,17 @@ returns g c =
       idle = idle-again c.args.lane c.args.token.now.me c.hold.new.token.me c.hold.ensures.taken
           c.put_if_match-reply.new.self made c.requires.idle keeps logged _ refl
           c.give.new.token.me c.give.ensures.given;
+      visited = visited c.args.lane c.args.token.now.me c.hold.new.token.me c.hold.ensures.taken
+          c.put_if_match-reply.new.self made c.requires.idle keeps logged _ refl
+          c.give.new.token.me c.give.ensures.given
+          (λ there back. HasWritten there.map
+          (Write c.args.key c.args.want.now c.args.change.now) there.seat back.seat
+          (Tries (2 ^ 32 - 1)) (replied_or_refused c.put_if_match-reply.result))
+          (subst (λ (h : HandleOf). HasWritten h.map
+          (Write c.args.key c.args.want.now c.args.change.now) h.seat
+          c.put_if_match-reply.new.self.seat (Tries (2 ^ 32 - 1))
+          (replied_or_refused c.put_if_match-reply.result)) (sym same)
+          c.put_if_match-reply.ensures.wrote);
       called = wrote.1 c.args.lane c.args.token.now.me.0 c.give.new.token.me.0
           (has-called c.args.lane c.args.token.now.me c.hold.new.token.me c.hold.ensures.taken
           c.put_if_match-reply.new.self made c.requires.idle keeps logged _ refl

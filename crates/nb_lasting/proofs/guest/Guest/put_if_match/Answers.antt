@@ -1,32 +1,34 @@
-use Rattle.std.proofs.Common.{◌∷◌, [], Ok, subst}
+use Rattle.std.proofs.Common.{◌∷◌, [], subst}
 use Rattle.nb_core.specs.declared.calls.Call.TheVariants.{Write}
 use Rattle.nb_lasting.specs.Guests.{GuestIsRefused}
-use Rattle.nb_lasting.specs.inside.Guests.{GuestHasTried}
 use Rattle.nb_lasting.proofs.Visiting.{if-err, then-first, then-refused}
+use Rattle.nb_lasting.proofs.Working.{counted-replied, worked-counted, worked-once}
 use Rattle.nb_lasting.proofs.guest.Guest.put_if_match.Goals as goal
 
 pub returns-in_err-reply-clause-refused : goal.returns-in_err-reply-clause-refused
 returns-in_err-reply-clause-refused g c =
     let call = Write c.args.key c.args.want c.args.change in
     if-err c.from_residual.result c.in_err-reply.field-0.0
-    (GuestIsRefused call c.args.self.now c.try_write.new.self) c.from_residual.ensures.1
-    (then-refused call c.args.self.now c.loop.self c.try_write.new.self c.in_err-reply.field-0.0
-    c.loop.invariant.2 c.in_err-reply.ensures)
+    (GuestIsRefused call c.args.self.now c.write.new.self) c.from_residual.ensures.1
+    (then-refused call c.args.self.now c.renew_in_time.new.self c.write.new.self
+    c.in_err-reply.field-0.0 c.renew_in_time.ensures.called c.in_err-reply.ensures.refused)
 
-pub returns-in-Some-2-clause-wrote : goal.returns-in-Some-2-clause-wrote
-returns-in-Some-2-clause-wrote g c =
+pub returns-in_err-reply-clause-worked : goal.returns-in_err-reply-clause-worked
+returns-in_err-reply-clause-worked g c =
+    worked-once (Write c.args.key c.args.want c.args.change) c.args.self.now
+    c.renew_in_time.new.self c.write.new.self c.renew_in_time.ensures.same
+    c.renew_in_time.ensures.left c.write.ensures.once c.write.ensures.left
+
+pub returns-clause-wrote : goal.returns-clause-wrote
+returns-clause-wrote g c =
     let call = Write c.args.key c.args.want c.args.change in
-    then-first c.args.self.now c.loop.self c.try_write.new.self ((call, c.in-Some-2.reply) ∷ [])
-    c.loop.invariant.2
-    (subst (λ reply. GuestHasTried call c.loop.self c.try_write.new.self (Ok reply)) c.in-Some-2.is
-    c.in_ok-reply.ensures)
+    let made = (call, c.in_ok-reply.reply) ∷ [] in
+    counted-replied c.args.self.now c.write.new.self c.count.new.self made c.count.ensures
+    (then-first c.args.self.now c.renew_in_time.new.self c.write.new.self made
+    c.renew_in_time.ensures.called c.in_ok-reply.ensures.wrote)
 
-pub loop-preserved : goal.loop-preserved
-loop-preserved g c =
-    let call = Write c.args.key c.args.want c.args.change in (
-      tt,
-      tt,
-      then-first c.args.self.now c.loop.self c.try_write.new.self [] c.loop.invariant.2
-          (subst (λ reply. GuestHasTried call c.loop.self c.try_write.new.self (Ok reply)) c.in_default.is
-          c.in_ok-reply.ensures),
-    )
+pub returns-clause-worked : goal.returns-clause-worked
+returns-clause-worked g c =
+    worked-counted (Write c.args.key c.args.want c.args.change) c.args.self.now
+    c.renew_in_time.new.self c.write.new.self c.count.new.self c.renew_in_time.ensures.same
+    c.renew_in_time.ensures.left c.write.ensures.once c.write.ensures.left c.count.ensures

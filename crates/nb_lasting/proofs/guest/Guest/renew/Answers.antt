@@ -1,4 +1,4 @@
-use Rattle.std.proofs.Common.{[], refl, subst}
+use Rattle.std.proofs.Common.{[], ap, refl, subst}
 use Rattle.nb_core.specs.Log.{log_of}
 use Rattle.nb_lasting.specs.Guests.{GuestHasCalled, GuestOf}
 use Rattle.nb_lasting.specs.inside.Guests.{guest_of}
@@ -14,6 +14,10 @@ returns g c =
       account = c.renew_through.new.token.me.0.account;
       left = c.self.inside.left;
     } in
-    subst (λ (guest : GuestOf). GuestHasCalled guest after []) c.self.view_is
-    (called_through (guest_of c.self.inside) after c.self.inside.token.me.0
-    c.renew_through.new.token.me.0 [] refl refl refl refl c.renew_through.ensures.called)
+    record {
+      called =
+          subst (λ (guest : GuestOf). GuestHasCalled guest after []) c.self.view_is
+          (called_through (guest_of c.self.inside) after c.self.inside.token.me.0
+          c.renew_through.new.token.me.0 [] refl refl refl refl c.renew_through.ensures.called);
+      left = ap (λ (guest : GuestOf). guest.left) c.self.view_is;
+    }

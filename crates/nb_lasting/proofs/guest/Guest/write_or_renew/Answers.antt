@@ -1,7 +1,8 @@
-use Rattle.std.proofs.Common.{refl, subst}
+use Rattle.std.proofs.Common.{ap, refl, subst}
 use Rattle.nb_core.specs.Log.{log_of}
 use Rattle.nb_core.specs.declared.calls.Call.TheVariants.{Write}
 use Rattle.nb_lasting.specs.Guests.{GuestOf}
+use Rattle.nb_lasting.specs.Visits.{HasGrown}
 use Rattle.nb_lasting.specs.inside.Guests.{GuestHasTried, guest_of}
 use Rattle.nb_lasting.proofs.Visiting.{tried-through}
 use Rattle.nb_lasting.proofs.guest.Guest.write_or_renew.Goals as goal
@@ -16,7 +17,13 @@ returns g c =
       left = c.self.inside.left;
     } in
     let call = Write c.args.key c.args.want.now c.args.change.now in
-    subst (λ (guest : GuestOf). GuestHasTried call guest after c.write_or_renew.result) c.self.view_is
-    (tried-through call (guest_of c.self.inside) after c.self.inside.token.me.0
-    c.write_or_renew.new.token.me.0 c.write_or_renew.result refl refl refl refl
-    c.write_or_renew.ensures.tried)
+    record {
+      tried =
+          subst (λ (guest : GuestOf). GuestHasTried call guest after c.write_or_renew.result) c.self.view_is
+          (tried-through call (guest_of c.self.inside) after c.self.inside.token.me.0
+          c.write_or_renew.new.token.me.0 c.write_or_renew.result refl refl refl refl
+          c.write_or_renew.ensures.tried);
+      grown = subst (λ (guest : GuestOf). HasGrown guest.account after.account) c.self.view_is
+          c.write_or_renew.ensures.grown;
+      left = ap (λ (guest : GuestOf). guest.left) c.self.view_is;
+    }
