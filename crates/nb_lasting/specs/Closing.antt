@@ -1,5 +1,5 @@
--- How the end of a map that guests share gathers all lanes: the closer takes the place of each guest,
--- and its lane's handle.
+-- How the end of a map that guests share gathers all lanes: the closer takes the place of each
+-- guest, and its lane's handle.
 use Rattle.std.specs.Prelude.{◌≡◌, ◌<◌, ◌+◌, ◌++◌, ℕ, List, [], All, Option, Some, length, slice_get}
 use Rattle.atomic_table.specs.Seated.{TableId}
 use Rattle.atomic_table.specs.Table.{Me}
@@ -11,8 +11,8 @@ use Rattle.nb_lasting.specs.Renewal.{HoldsBelow}
 use Rattle.nb_lasting.specs.Shared.{IsCurrent}
 use Rattle.nb_lasting.specs.declared.shared.LaneView.{LaneView}
 
--- One more lane's handle is gathered, which knows all that the lane's guest had seen. What the others
--- knew is as before.
+-- One more lane's handle is gathered, which knows all that the lane's guest had seen. What the
+-- others knew is as before.
 pub record HasGathered (lane : ℕ) (seen : List Event) (knew : ℕ → List Event)
     (me : Me (Option HandleOf) LaneView) (handles : List HandleOf) : Type 0 where
   pub holds : HoldsBelow (lane + 1) me handles

@@ -39,8 +39,8 @@ pub record IsRested (before after : HandleOf) : Type 0 where
   pub settled : HaveSettled tried.map (seats_of tried) (seats_of after) size
   pub same : IsSameMap tried after
 
--- the handles were one, with all their seats in order; that was made anew, or refused to, and settled;
--- and it was parted again
+-- the handles were one, with all their seats in order; that was made anew, or refused to, and
+-- settled; and it was parted again
 pub record IsPartedAnew (p : Plan) (before after : List HandleOf) (result : Result ⊤ RenewFault) :
     Type 0 where
   pub joined : HandleOf
@@ -57,9 +57,10 @@ abbrev pub HaveTooMany : Plan → List HandleOf → Type 0
 HaveTooMany p handles =
     (joined : HandleOf) × (seats_of joined ≡ seats_of_each handles) × HasTooMany p joined
 
--- The handles were one, with all their seats in order; its keys were counted, or memory for that was
--- refused; and it was parted again.
-pub record IsPartedCounted (before after : List HandleOf) (result : Result ℕ SettleFault) : Type 0 where
+-- The handles were one, with all their seats in order; its keys were counted, or memory for that
+-- was refused; and it was parted again.
+pub record IsPartedCounted (before after : List HandleOf) (result : Result ℕ SettleFault) :
+    Type 0 where
   pub joined : HandleOf
   pub whole : HandleOf
   pub one_map : (single : AreSingle before) → joined.map ≡ single.shared

@@ -1,5 +1,5 @@
--- A map without an end that guests share, each in a thread of its own: what their calls promise, and
--- what holds at its end. It is told in words of calls alone.
+-- A map without an end that guests share, each in a thread of its own: what their calls promise,
+-- and what holds at its end. It is told in words of calls alone.
 use Rattle.std.specs.FinMap as numbers
 use Rattle.std.specs.Prelude.{◌≡◌, ◌≢◌, ◌<◌, ◌≤◌, ◌+◌, ◌-◌, ◌^◌, ◌∷◌, ◌++◌, ◌⊎◌, ℕ, zero, suc, Bool, Err, Ok, Result, List, [], All, Option, Some, length, map, slice_get}
 use Rattle.atomic_table.specs.Seated.{TableId}
@@ -20,9 +20,9 @@ use Rattle.nb_lasting.specs.declared.guest.TheConstants.{LOOK_AFTER}
 use Rattle.nb_lasting.specs.declared.shared.Account.{Account}
 
 -- A guest: the map that it is of, its number there, and the log that it knows: the calls of all
--- guests until its last call. It keeps account of each handle that it took, as that was then, and of
--- its own one each time that it gave it back, the newest first. After so many new keys at the latest
--- it looks whether the map is crowded.
+-- guests until its last call. It keeps account of each handle that it took, as that was then, and
+-- of its own one each time that it gave it back, the newest first. At least so many of its writes
+-- come before the next one that looks whether the map is crowded.
 pub record GuestOf : Type 0 where
   pub of : TableId
   pub number : ℕ
@@ -67,16 +67,15 @@ abbrev pub GuestHasMatched : Call → (before after : GuestOf) → Bool → Type
 GuestHasMatched call before after matched =
     (reply : Reply) × (reply.matched ≡ matched) × GuestHasReplied call before after reply
 
--- Its own handle made this one `get`, and it took none else. So it is wait-free but for the time that
--- another has its handle.
+-- It took its own handle once, for one `get` by it. So its steps have a bound, but for those of a
+-- wait while its handle is out.
 pub record GuestHasRead (key : ℕ) (before after : GuestOf) (found : Option ℕ) : Type 0 where
   pub visited :
       HasVisited before.number (λ there back. HasGot there.map key there.seat back.seat found)
       before.account after.account
   pub left : after.left ≡ before.left
 
--- By one visit its handle made this write, or was refused it: that is what came of it. It has as many
--- tries as a number of 32 bits can say.
+-- It took its own handle once, for one write by it with 2^32 - 1 tries, of which this came.
 abbrev pub HasTriedBy :
     Call → (before : GuestOf) → (after : Account) → Result Reply PutFault → Type 0
 HasTriedBy call before after outcome =
@@ -84,27 +83,27 @@ HasTriedBy call before after outcome =
     (λ there back. HasWritten there.map call there.seat back.seat (Tries (2 ^ 32 - 1))
     (replied_or_refused outcome)) before.account after
 
--- the handle's write was for nothing: it found its map full, or others came first each time
+-- that was for nothing: it found the map full, or others came first each time
 abbrev pub IsUndone : Result Reply PutFault → Type 0
 IsUndone (Ok reply) = ⊥
 IsUndone (Err put_fault.ValueRange) = ⊥
 IsUndone (Err put_fault.Full) = Unit {0}
 IsUndone (Err put_fault.Contended) = Unit {0}
 
--- Its first visit was this write by its own handle; and unless that was for nothing, its only one.
+-- So it did at first, and no more, unless that was for nothing.
 pub record IsOfOneVisit (call : Call) (before after : GuestOf) : Type 0 where
   pub outcome : Result Reply PutFault
   pub then : Account
   pub first : HasTriedBy call before then outcome
   pub only : (after.account ≡ then) ⊎ (IsUndone outcome × HasGrown then after.account)
 
--- how many such calls may come before the next look, once one that is due is made
+-- how many writes at least come before the next look, where one that is due is made first
 abbrev pub calls_left : ℕ → ℕ
 calls_left zero = LOOK_AFTER
 calls_left (suc n) = suc n
 
--- How a write works. Where no look is due, it makes one write by its own handle, unless that is for
--- nothing. A look is due in each 1,024th call at most.
+-- How long a write works. Where no look is due, it is one write by the guest's handle, unless that
+-- is for nothing. A look is due in each 1,024th write at most.
 pub record GuestHasWorked (call : Call) (before after : GuestOf) : Type 0 where
   pub once : before.left ≢ 0 → IsOfOneVisit call before after
   pub left : calls_left before.left ≤ after.left + 1
@@ -147,8 +146,8 @@ abbrev pub with_log : List Entry → GuestOf → GuestOf
 with_log whole guest = record guest { log = whole }
 
 -- There is one log of all calls until now, and it is replayed. Each guest's log goes on to it by no
--- call of that guest, and is this log from now on. Each entry is one guest's. The map that it leaves
--- has so many keys.
+-- call of that guest, and is this log from now on. Each entry is one guest's. The map that it
+-- leaves has so many keys.
 pub record GuestsHaveSettled (before after : List GuestOf) (size : ℕ) : Type 0 where
   pub whole : List Entry
   pub replayed : IsReplayed whole
@@ -163,8 +162,9 @@ pub record GuestsHaveSettled (before after : List GuestOf) (size : ℕ) : Type 0
 -- what a guest has called adds up
 abbrev pub CallsAddUp : Type 0
 CallsAddUp =
-    (first middle last : GuestOf) (made later : List (Call × Reply)) → GuestHasCalled first middle made
-    → GuestHasCalled middle last later → GuestHasCalled first last (later ++ made)
+    (first middle last : GuestOf) (made later : List (Call × Reply))
+    → GuestHasCalled first middle made → GuestHasCalled middle last later
+    → GuestHasCalled first last (later ++ made)
 
 -- each guest has made these calls since it came, the newest first
 pub record HaveCalled (n : ℕ) (new last : List GuestOf) (made : ℕ → List (Call × Reply)) :
@@ -188,8 +188,8 @@ OneLogOfGuests =
     (made : ℕ → List (Call × Reply)) → HaveCome n shared new → HaveCalled n new last made
     → HaveEnded last ended → IsOneLogOf n made (map_left ended)
 
--- The same whenever they settle, with the size of the map that the log leaves; and by that they have
--- called nothing.
+-- The same whenever they settle, with the size of the map that the log leaves; and by that they
+-- have called nothing.
 abbrev pub OneLogSoFar : Type 0
 OneLogSoFar =
     (n : ℕ) (shared : SharedOf) (new last settled : List GuestOf) (size : ℕ)

@@ -48,8 +48,8 @@ pub record IsIdleGuest (lane : ℕ) (me : Me (Option HandleOf) LaneView) : Type 
   pub outs : me.0.outs ≡ []
   pub slots : me.1 ≡ []
 
--- The guest has made these calls: the one log has gone on, all of it is replayed, and of what is new
--- just these calls are the guest's, the newest first.
+-- The guest has made these calls: the one log has gone on, all of it is replayed, and of what is
+-- new just these calls are the guest's, the newest first.
 abbrev pub HasCalledIn :
     (lane : ℕ) → (before after : LaneView) → (made : List (Call × Reply)) → Type 0
 HasCalledIn lane before after made =
@@ -68,8 +68,8 @@ HasWrittenIn lane before after call (Ok reply) = HasCalledIn lane before after (
 HasWrittenIn lane before after call (Err fault) =
     HasCalledIn lane before after [] × IsJustIn call (log_of after.seen) fault
 
--- what a write with all handles promises: it is made; or nothing is called, and the map may have more
--- room; or it is refused
+-- what a write with all handles promises: it is made; or nothing is called, and the map may have
+-- more room; or it is refused
 abbrev pub HasTriedIn :
     (lane : ℕ) → (before after : LaneView) → Call → Result (Option Reply) WriteFault → Type 0
 HasTriedIn lane before after call (Ok None) = HasCalledIn lane before after []

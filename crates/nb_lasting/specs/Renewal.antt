@@ -34,8 +34,9 @@ abbrev pub blanks : ℕ → List (ℕ × Option HandleOf)
 blanks zero = []
 blanks (suc n) = (n, None) ∷ blanks n
 
--- The handles of all lanes begin an epoch, of a new map or of the same one: it goes on from what each
--- lane's handle knew, by no call of it; and that is what they know. The map has a seat for each lane.
+-- The handles of all lanes begin an epoch, of a new map or of the same one: it goes on from what
+-- each lane's handle knew, by no call of it; and that is what they know. The map has a seat for
+-- each lane.
 pub record AreAnew (n : ℕ) (knew : ℕ → List Event) (handles : List HandleOf) : Type 0 where
   pub shared : MapOf
   pub next : EpochIn
@@ -56,8 +57,8 @@ pub record KnowOneLog (handles : List HandleOf) : Type 0 where
   pub whole : List Entry
   pub logs : (i : ℕ) (h : HandleOf) → slice_get handles i ≡ Some h → log h.seat ≡ whole
 
--- What a renewal makes of all handles. Where it is refused, the epoch is one of the same map, so that
--- what the renewal has read is nobody's call.
+-- What a renewal makes of all handles. Where it is refused, the epoch is one of the same map, so
+-- that what the renewal has read is nobody's call.
 abbrev pub AreRenewed :
     Plan → (ℕ → List Event) → (after : List HandleOf) → Result ⊤ RenewFault → Type 0
 AreRenewed p knew after result =
@@ -98,8 +99,8 @@ pub record CanDealBelow (n : ℕ) (me : Me (Option HandleOf) LaneView) (handles 
   pub held : AreHeld me.0.map me.0.filled me.0.past n know handles
   pub current : (i : ℕ) → i < n → IsCurrent i (knew i) (know i)
 
--- It has them still. The other guests' have called nothing since; its guest's own one knows this log,
--- which the guest has seen once that one is back.
+-- It has them still. The other guests' have called nothing since; its guest's own one knows this
+-- log, which the guest has seen once that one is back.
 pub record CanComeHome (own : ℕ) (whole : List Entry) (n : ℕ) (me : Me (Option HandleOf) LaneView)
     (handles : List HandleOf) : Type 0 where
   pub knew : ℕ → List Event

@@ -1,6 +1,6 @@
 -- Lanes that threads share: each guest has one, whose handle is at home in a slot of a table while
--- the guest makes no call. Who makes the map anew takes all handles. This is the rule of that table,
--- with the one log of all calls in it.
+-- the guest makes no call. Who makes the map anew takes all handles. This is the rule of that
+-- table, with the one log of all calls in it.
 use Rattle.std.specs.Prelude.{suc, ◌≡◌, ◌≢◌, ◌==◌, ◌<◌, ◌+◌, ◌*◌, ◌≤◌, ◌-◌, ◌++◌, ◌⊎◌, take, ℕ, if◌then◌else◌, List, [], ◌∷◌, Option, Some, None, All, length, map, slice_index}
 use mathlib.Core.Option as maths
 use mathlib.Core.Option.{none, some}
@@ -100,10 +100,11 @@ Has out (o ∷ outs) = (o ≡ out) ⊎ Has out outs
 
 -- ---- the rule
 
--- There is one map, with its epoch, in which are the lanes' calls alone, and in each lane a log is current: the one log that the handle
--- knows which is at home there, or that it knew when it was taken. It goes on from what the lane's
--- guest has seen, by no call of the guest. Lanes have guests up to a number, which one token knows
--- that makes more of them; where there is no guest yet, nothing has been seen.
+-- There is one map, with its epoch, in which are the lanes' calls alone, and in each lane a log is
+-- current: the one log that the handle knows which is at home there, or that it knew when it was
+-- taken. It goes on from what the lane's guest has seen, by no call of the guest. Lanes have guests
+-- up to a number, which one token knows that makes more of them; where there is no guest yet,
+-- nothing has been seen.
 pub record IsOneLog (p : Plan) (s : LaneMoment) : Type 0 where
   pub shared : MapOf
   pub epoch : EpochIn
@@ -118,7 +119,9 @@ pub record IsOneLog (p : Plan) (s : LaneMoment) : Type 0 where
       (i : ℕ) (y : Option HandleOf) → get_elem? s.homes i ≡ some (some y)
       → (handle : HandleOf) × (y ≡ Some handle) × IsLane shared i handle
       × KnowsIn epoch.filled epoch.past handle.seat (current i)
-  pub words : (i : ℕ) → i < p.seats → slice_index s.words (word_of i) ≡ 0 → absent (get_elem? s.homes i) ≡ 0
+  pub words :
+      (i : ℕ) → i < p.seats → slice_index s.words (word_of i) ≡ 0
+      → absent (get_elem? s.homes i) ≡ 0
   pub once : (i : ℕ) → holders i s.views ≡ absent (get_elem? s.homes i)
   pub held :
       (id : ℕ) (v : LaneView) → get_elem? s.views id ≡ some v → v.outs ≢ [] → IsOfMap shared epoch v
@@ -136,7 +139,8 @@ pub record IsOneLog (p : Plan) (s : LaneMoment) : Type 0 where
   pub fresh : (i : ℕ) → dealt ≤ i → seen i ≡ []
   pub few : dealt ≤ p.seats
   pub dealer :
-      (id : ℕ) (v : LaneView) (d : ℕ) → get_elem? s.views id ≡ some v → v.dealer ≡ Some d → d ≡ dealt
+      (id : ℕ) (v : LaneView) (d : ℕ) → get_elem? s.views id ≡ some v → v.dealer ≡ Some d
+      → d ≡ dealt
   pub one_dealer :
       (id other : ℕ) (v u : LaneView) (d d' : ℕ) → get_elem? s.views id ≡ some v
       → get_elem? s.views other ≡ some u → v.dealer ≡ Some d → u.dealer ≡ Some d'
@@ -169,7 +173,8 @@ pub record HasTaken (lane : ℕ) (before after : Me (Option HandleOf) LaneView) 
       × (after.0.past ≡ before.0.past)
 
 abbrev pub Takes :
-    Step (Option HandleOf) → Me (Option HandleOf) LaneView → ℕ → Me (Option HandleOf) LaneView → Type 0
+    Step (Option HandleOf) → (before : Me (Option HandleOf) LaneView) → (found : ℕ)
+    → (after : Me (Option HandleOf) LaneView) → Type 0
 Takes step before found after =
     (found ≡ 0 → (lane : ℕ) → step.word ≡ word_of lane
     → HasTaken lane before after × FitsLanes step.slots after.0)
@@ -177,7 +182,8 @@ Takes step before found after =
 
 -- a look at a lane's word, which may mark it: the token is as before
 abbrev pub Marks :
-    Step (Option HandleOf) → Me (Option HandleOf) LaneView → ℕ → Me (Option HandleOf) LaneView → Type 0
+    Step (Option HandleOf) → (before : Me (Option HandleOf) LaneView) → (found : ℕ)
+    → (after : Me (Option HandleOf) LaneView) → Type 0
 Marks step before found after = after ≡ before
 
 -- the token has this lane's handle, taken last, which has gone on to this log
@@ -216,7 +222,9 @@ pub record HoldsAnew (p : Plan) (lane : ℕ) (knew : List Event) (handle : Handl
   pub made : All (IsOfGuest p.seats) (log_of next.past)
   pub knows : KnowsIn next.filled next.past handle.seat next.past
   pub all : (i : ℕ) → i < p.seats → 1 ≤ times_out i me.0.outs
-  pub met : (out : Out) → Has out me.0.outs → HasGoneOnBy out.lane (log_of out.knew) (log_of next.past) []
+  pub met :
+      (out : Out) → Has out me.0.outs
+      → HasGoneOnBy out.lane (log_of out.knew) (log_of next.past) []
 
 -- ---- what a step tells
 
@@ -263,7 +271,8 @@ HasGiven before after =
     × (after.1 ≡ rest before.1)
 
 abbrev pub Gives :
-    Step (Option HandleOf) → Me (Option HandleOf) LaneView → ℕ → Me (Option HandleOf) LaneView → Type 0
+    Step (Option HandleOf) → (before : Me (Option HandleOf) LaneView) → (found : ℕ)
+    → (after : Me (Option HandleOf) LaneView) → Type 0
 Gives step before found after = HasGiven before after
 
 -- a handle of the same map is given back after a renewal
@@ -273,7 +282,8 @@ HasDealt before after =
     × (after.1 ≡ rest before.1)
 
 abbrev pub Deals :
-    Step (Option HandleOf) → Me (Option HandleOf) LaneView → ℕ → Me (Option HandleOf) LaneView → Type 0
+    Step (Option HandleOf) → (before : Me (Option HandleOf) LaneView) → (found : ℕ)
+    → (after : Me (Option HandleOf) LaneView) → Type 0
 Deals step before found after = HasDealt before after
 
 -- the first handle of a new map is given back; the next epoch goes on from what each lane's handle
@@ -283,11 +293,14 @@ HasBegunAnew before after =
     (next : EpochIn) × (log_in before.1 ≡ log_of next.filled)
     × ((out : Out) → Has out before.0.outs
     → HasGoneOnBy out.lane (log_of out.knew) (log_of next.past) [])
-    × (after.0 ≡ given_anew before.0 (rest_outs before.0.outs) (map_in before.0.map before.1) next.filled next.past)
+    × (after.0
+    ≡ given_anew before.0 (rest_outs before.0.outs) (map_in before.0.map before.1) next.filled
+    next.past)
     × (after.1 ≡ rest before.1)
 
 abbrev pub Renews :
-    Step (Option HandleOf) → Me (Option HandleOf) LaneView → ℕ → Me (Option HandleOf) LaneView → Type 0
+    Step (Option HandleOf) → (before : Me (Option HandleOf) LaneView) → (found : ℕ)
+    → (after : Me (Option HandleOf) LaneView) → Type 0
 Renews step before found after = HasBegunAnew before after
 
 -- ---- the first token, and others

@@ -22,8 +22,8 @@ pub record HasGrown (before after : Account) : Type 0 where
   pub taken : IsBeginning before.taken after.taken
   pub returned : IsBeginning before.returned after.returned
 
--- A guest took the handle of its own lane once, by which this was done, and gave it back. It took no
--- other.
+-- A guest took the handle of its own lane once, by which this was done, and gave it back. It took
+-- no other.
 pub record HasVisited (lane : ℕ) (did : (there back : HandleOf) → Type 0)
     (before after : Account) : Type 0 where
   pub there : HandleOf

@@ -11,8 +11,8 @@ use crate::shared::Token;
 use nb_core::OutOfMemory;
 use std::sync::Wait;
 
-/// How many keys the map has, while other threads call: waits for each lane, and gives all back. The
-/// token's guest has called nothing by it, and has seen all calls until then.
+/// How many keys the map has, while other threads call: waits for each lane, and gives all back.
+/// The token's guest has called nothing by it, and has seen all calls until then.
 pub(crate) fn count_through<R: Wait>(
     rt: &R,
     hall: &Hall,

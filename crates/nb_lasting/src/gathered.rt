@@ -1,5 +1,5 @@
-//! All handles of a map, each with one seat, are made one, which is counted or made anew, and parted
-//! again.
+//! All handles of a map, each with one seat, are made one, which is counted or made anew, and
+//! parted again.
 ghost use Rattle.std.specs.Prelude.{IfErr, IfOk, ℕ, length, map, ◌<◌, ◌≡◌};
 ghost use Rattle.nb_core.specs.declared.calls.Call.TheVariants as call;
 ghost use Rattle.nb_map.specs.Handles.{HandleOf, IsSameMap, IsWhole, handle_on, seats_of};
@@ -42,7 +42,8 @@ fn parted<R: Wait>(rt: &R, alloc: Global, whole: Handle) -> Vec<Handle>
 /// All seats learn of all calls. It waits for the memory for four small vectors.
 fn settle<R: Wait>(rt: &R, alloc: Global, whole: &mut Handle)
     requires whole { IsWhole whole.old }
-    ensures settled { (size : ℕ) × HaveSettled whole.old.map (seats_of whole.old) (seats_of whole.new) size }
+    ensures settled { (size : ℕ)
+        × HaveSettled whole.old.map (seats_of whole.old) (seats_of whole.new) size }
     ensures map { IsSameMap whole.old whole.new }
 {
     for _ in rt.forever() {
@@ -55,8 +56,8 @@ fn settle<R: Wait>(rt: &R, alloc: Global, whole: &mut Handle)
     unreachable!()
 }
 
-/// Handles of a new map in place of these. Where that is refused they are of the same map, and all of
-/// them know what the refused renewal has read.
+/// Handles of a new map in place of these. Where that is refused they are of the same map, and all
+/// of them know what the refused renewal has read.
 pub(crate) fn parted_anew<R: Wait>(
     rt: &R,
     alloc: Global,

@@ -24,8 +24,8 @@ use std::marker::Model;
 use std::sync::atomic::Ordering;
 use std::sync::{Arc, Wait};
 
-/// One thread's way to a map without an end. Contracts see it as its number, and the log that it
-/// knows. A guest that makes no call holds up nobody.
+/// One thread's way to a map without an end. Contracts see it as its number, the log that it knows,
+/// and an account of the handles that it took. A guest that makes no call holds up nobody.
 #[derive(Drop)]
 pub struct Guest {
     pub(crate) hall: Arc<Hall, Global>,
@@ -58,8 +58,8 @@ impl Guest {
         self.lane
     }
 
-    /// Reminds a proof that the log that it knows is replayed: so a guest that makes no call has called
-    /// nothing. It does nothing.
+    /// Reminds a proof that the log that it knows is replayed: so a guest that makes no call has
+    /// called nothing. It does nothing.
     pub fn known(&self)
         ensures { IsReplayed self.now.log }
     {
@@ -76,16 +76,20 @@ impl Guest {
         token
     }
 
-    /// What the map has at a key. It takes its handle once, for one `get` by it.
+    /// What the map has at a key, by one `get` of its handle. It waits while another has that, to
+    /// renew the map or to count it.
     pub fn get<R: Wait>(&mut self, rt: &R, key: Key) -> Option<Num>
-        ensures replied { GuestHasReplied (call.Get key) self.old self.new (reply_at (call.Get key) result) }
+        ensures replied { GuestHasReplied (call.Get key) self.old self.new
+            (reply_at (call.Get key) result) }
         ensures read { GuestHasRead key self.old self.new result }
     {
         get_through(rt, &self.hall.table.shared, &mut self.token, self.lane, key)
     }
 
     /// Changes what the map has at a key, where the condition holds of it, and replies what it had.
-    /// It takes memory only for a new key, and then the time of a whole renewal now and then.
+    /// It is one write by its handle, unless it looks first, once in 1,024 writes at most, or the
+    /// map is full. It takes memory only for a new key, and then the time of a whole renewal now
+    /// and then.
     pub fn put_if_match<R: Wait>(
         &mut self,
         rt: &R,
@@ -93,8 +97,10 @@ impl Guest {
         want: Want,
         change: Change,
     ) -> Result<Reply, WriteFault>
-        ensures wrote { IfOk result (GuestHasReplied (call.Write key want change) self.old self.new) }
-        ensures refused { IfErr result (GuestIsRefused (call.Write key want change) self.old self.new) }
+        ensures wrote { IfOk result
+            (GuestHasReplied (call.Write key want change) self.old self.new) }
+        ensures refused { IfErr result
+            (GuestIsRefused (call.Write key want change) self.old self.new) }
         ensures worked { GuestHasWorked (call.Write key want change) self.old self.new }
     {
         self.renew_in_time(rt);
@@ -103,7 +109,7 @@ impl Guest {
         Ok(reply)
     }
 
-    /// Makes a write. It takes its handle once, unless the map is full, or others come first.
+    /// Makes a write: by taking its handle once, unless the map is full, or others come first.
     fn write<R: Wait>(
         &mut self,
         rt: &R,
@@ -151,7 +157,8 @@ impl Guest {
 
     /// A call that found no number brings the next look nearer.
     fn count(&mut self, reply: &Reply)
-        ensures { (left : ℕ) × (self.new ≡ with_calls_left left self.old) × (self.old.left ≤ left + 1) }
+        ensures { (left : ℕ) × (self.new ≡ with_calls_left left self.old)
+            × (self.old.left ≤ left + 1) }
     {
         // Guests may lie side by side: no store where none is needed.
         if reply.before.is_none() {
@@ -238,18 +245,20 @@ impl Guest {
         )
     }
 
-    /// How many keys the map has, exactly, at one moment while others call. It waits for each guest's
-    /// call, as a renewal does, and takes memory for some vectors of as many handles as there are guests.
+    /// How many keys the map has, exactly, at one moment while others call. It waits for each
+    /// guest's call, as a renewal does, and takes memory for some vectors of as many handles as
+    /// there are guests.
     pub fn size<R: Wait>(&mut self, rt: &R) -> Result<u64, OutOfMemory>
         ensures called { GuestHasCalled self.old self.new [] }
-        ensures size { IfOk result (λ size. size ≡ length (numbers.entries (map_of_log self.new.log))) }
+        ensures size { IfOk result (λ size.
+            size ≡ length (numbers.entries (map_of_log self.new.log))) }
         ensures left { self.new.left ≡ self.old.left }
     {
         count_through(rt, &self.hall, &mut self.token, self.lane)
     }
 
-    /// How often the map was made anew so far, by any guest. No clause says so: no contract can tell what
-    /// a number holds that threads share beside the map.
+    /// How often the map was made anew so far, by any guest. No clause says so: no contract can
+    /// tell what a number holds that threads share beside the map.
     pub fn renewals(&self) -> u64 {
         self.hall.renewals.load(Ordering::SeqCst)
     }
@@ -296,7 +305,8 @@ impl Guest {
         change: Change,
     ) -> Result<Reply, GrowFault>
         requires no_sum { NeverOverflows (call.Write key want change) }
-        ensures wrote { IfOk result (GuestHasReplied (call.Write key want change) self.old self.new) }
+        ensures wrote { IfOk result
+            (GuestHasReplied (call.Write key want change) self.old self.new) }
         ensures refused { IfErr result (λ fault. GuestIsRefused (call.Write key want change)
             self.old self.new (as_write_fault fault)) }
         ensures worked { GuestHasWorked (call.Write key want change) self.old self.new }
@@ -325,8 +335,8 @@ impl Guest {
     /// Puts a number at a key, and answers what was there.
     pub fn put<R: Wait>(&mut self, rt: &R, key: Key, number: Num) -> Result<Option<Num>, GrowFault>
         ensures wrote { IfOk result (GuestHasFound (put_of key number) self.old self.new) }
-        ensures refused { IfErr result (λ fault. GuestIsRefused (put_of key number) self.old self.new
-            (as_write_fault fault)) }
+        ensures refused { IfErr result (λ fault. GuestIsRefused (put_of key number)
+            self.old self.new (as_write_fault fault)) }
         ensures worked { GuestHasWorked (put_of key number) self.old self.new }
     {
         number.known();
@@ -341,7 +351,8 @@ impl Guest {
         key: Key,
         number: Num,
     ) -> Result<Option<Num>, GrowFault>
-        ensures wrote { IfOk result (GuestHasFound (put_if_absent_of key number) self.old self.new) }
+        ensures wrote { IfOk result
+            (GuestHasFound (put_if_absent_of key number) self.old self.new) }
         ensures refused { IfErr result (λ fault. GuestIsRefused (put_if_absent_of key number)
             self.old self.new (as_write_fault fault)) }
         ensures worked { GuestHasWorked (put_if_absent_of key number) self.old self.new }

@@ -36,8 +36,8 @@ const ROUNDS: u32 = 5000;
 
 const SHARED: u32 = 7;
 
-/// Adds 1 to a key that all share. A key of the thread's own comes and goes, and takes a slot: so the
-/// map is made anew again and again.
+/// Adds 1 to a key that all share. A key of the thread's own comes and goes, and takes a slot: so
+/// the map is made anew again and again.
 fn round<R: Wait + Abort>(rt: &R, guest: &mut Guest, thread: u32, n: u32)
     ensures { guest.new.of ≡ guest.old.of }
 {
@@ -224,7 +224,8 @@ fn beside_guests_that_make_no_call(rt: HostRuntime) {
     assert!(rt; ended(&rt, shared, guests).size() == 10_000);
 }
 
-/// Each call by its name, and the one refusal that needs no memory. In the end the map is as it was.
+/// Each call by its name, and the one refusal that needs no memory. In the end the map is as it
+/// was.
 fn calls_by_name<R: Wait + Abort>(rt: &R, guest: &mut Guest)
     ensures { guest.new.of ≡ guest.old.of }
 {

@@ -198,8 +198,8 @@ impl Lasting {
         self.present.entries()
     }
 
-    /// What is left of the map: all that it has. It takes no memory, and waits only until nobody else
-    /// has a reference to the last of its maps, as nobody has.
+    /// What is left of the map: all that it has. It takes no memory, and waits only until nobody
+    /// else has a reference to the last of its maps, as nobody has.
     pub fn close<R: Wait>(self, rt: &R) -> Ended
         ensures { map_left result ≡ self }
     {

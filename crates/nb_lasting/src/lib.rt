@@ -1,6 +1,7 @@
-//! A map without an end, for one owner, or for guests that share it: it makes itself anew, larger or of
-//! the same size, where its tables are full. So a put is refused only where there is no memory, or where
-//! the greatest table is full; and its calls answer as those of a plain map, as if there were no tables.
+//! A map without an end, for one owner, or for guests that share it: it makes itself anew, larger
+//! or of the same size, where its tables are full. So a put is refused only where there is no
+//! memory, or where the greatest table is full; and its calls answer as those of a plain map, as if
+//! there were no tables.
 #![tactic(auto)]
 
 mod closing;

@@ -90,7 +90,8 @@ impl Present {
         }
     }
 
-    /// A new map goes on with what this one has, with room for as many keys again, and for the fewest.
+    /// A new map goes on with what this one has, with room for as many keys again, and for the
+    /// fewest.
     pub(crate) fn renew(&mut self) -> Result<(), GrowFault>
         requires alone { IsAlone self.old.handle }
         ensures alone { IsAlone self.new.handle }
@@ -134,7 +135,8 @@ impl Present {
         ensures wrote { IfOk result (IsMadeOn (call.Write key want.now change.now)
             (content self.old.handle) (content self.new.handle)) }
         ensures kept { OnErr result (content self.new.handle ≡ content self.old.handle) }
-        ensures refused { IfErr result (IsRefusedHere (call.Write key want.now change.now) self.old.handle) }
+        ensures refused { IfErr result
+            (IsRefusedHere (call.Write key want.now change.now) self.old.handle) }
     {
         self.handle.put_if_match(key, *want, *change, 1)
     }

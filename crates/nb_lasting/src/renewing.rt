@@ -203,8 +203,8 @@ fn deal_renewed(row: &Row, token: &mut Token, handles: Vec<Handle>)
     deal_all(row, token, handles);
 }
 
-/// Makes the map anew with all handles, and puts them back. Where that is refused, an epoch of the same
-/// map begins: so what was read for it is nobody's call.
+/// Makes the map anew with all handles, and puts them back. Where that is refused, an epoch of the
+/// same map begins: so what was read for it is nobody's call.
 fn renew_all<R: Wait>(
     rt: &R,
     hall: &Hall,
@@ -231,8 +231,9 @@ fn renew_all<R: Wait>(
     renewed
 }
 
-/// Makes the map anew with all handles, with room for twice the keys that it has, and for the fewest
-/// that the hall says, and puts them back. Where it has as many keys as the greatest table has slots, the guest has seen all calls instead.
+/// Makes the map anew with all handles, with room for twice the keys that it has, and for the
+/// fewest that the hall says, and puts them back. Where it has as many keys as the greatest table
+/// has slots, the guest has seen all calls instead.
 pub(crate) fn renew_counted<R: Wait>(
     rt: &R,
     hall: &Hall,
@@ -274,8 +275,8 @@ pub(crate) fn renew_counted<R: Wait>(
     }
 }
 
-/// Makes the map anew while other threads call, if there were no more renewals than these: waits for
-/// each lane, and gives all back. The token's guest has called nothing by it.
+/// Makes the map anew while other threads call, if there were no more renewals than these: waits
+/// for each lane, and gives all back. The token's guest has called nothing by it.
 pub(crate) fn renew_through<R: Wait>(
     rt: &R,
     hall: &Hall,
@@ -300,8 +301,8 @@ pub(crate) fn renew_through<R: Wait>(
     renew_counted(rt, hall, token, handles, own)
 }
 
-/// Makes a write that found the map full, by the guest's own handle while all others are held; or else
-/// makes the map anew.
+/// Makes a write that found the map full, by the guest's own handle while all others are held; or
+/// else makes the map anew.
 pub(crate) fn write_or_renew<R: Wait>(
     rt: &R,
     hall: &Hall,

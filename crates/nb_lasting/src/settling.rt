@@ -1,5 +1,5 @@
-//! All guests settle, while nobody calls: one token takes all lanes, each in the place of its guest,
-//! counts the map, and gives the lanes back so.
+//! All guests settle, while nobody calls: one token takes all lanes, each in the place of its
+//! guest, counts the map, and gives the lanes back so.
 ghost use Rattle.std.specs.FinMap as numbers;
 ghost use Rattle.std.specs.Prelude.{IfOk, List, OnErr, length, map, vec_capacity, ◌+◌, ◌*◌, ◌<◌, ◌≤◌, ◌≡◌};
 ghost use Rattle.nb_core.specs.Log.{Entry, log_of};
@@ -138,8 +138,8 @@ fn settle_all(row: &Row, token: &mut Token, handles: Vec<Handle>, guests: &mut [
     }
 }
 
-/// Counts the map with all lanes, which it takes in the guests' places and gives back. Where memory is
-/// refused, each guest has seen what it had seen.
+/// Counts the map with all lanes, which it takes in the guests' places and gives back. Where memory
+/// is refused, each guest has seen what it had seen.
 pub(crate) fn settle_guests<R: Wait>(
     rt: &R,
     hall: &Hall,

@@ -1,22 +1,28 @@
 //! Lanes that threads share: what their tokens know, and the steps of the table.
 //!
-//! An `atomic_table` has a word and a slot for each lane. The slot holds the lane's handle, and the word is 0 while that is at home, 1
-//! while it is out, and 2 where somebody sleeps until it comes home. A guest's token takes its handle by a compare-exchange of 0, calls,
-//! and swaps 0 in; where that finds 2, it wakes one sleeper. Who renews takes all lanes in order, makes one whole handle of them, renews
-//! it, parts it, and deals the handles; who asks for the size counts in its place. A guest that makes no call holds up nobody. A token is
-//! private, and goes back into a guest only when it has no lane: so no lane is lost.
+//! An `atomic_table` has a word and a slot for each lane. The slot holds the lane's handle, and the
+//! word is 0 while that is at home, 1 while it is out, and 2 where somebody sleeps until it comes
+//! home. A guest's token takes its handle by a compare-exchange of 0, calls, and swaps 0 in; where
+//! that finds 2, it wakes one sleeper. Who renews takes all lanes in order, makes one whole handle
+//! of them, renews it, parts it, and deals the handles; who asks for the size counts in its place.
+//! A guest that makes no call holds up nobody. A token is private, and goes back into a guest only
+//! when it has no lane: so no lane is lost.
 //!
-//! The rule (`IsOneLog` in `specs/Shared.antt`): there is one map, with its epoch, and each handle at home is its lane's, of this map. In
-//! each lane a log is current: what the handle at home knows, or what it knew when it was taken. What the lane's guest has seen goes on to
-//! that by no call of the guest. A renewal that is refused makes reads by the seats: then an epoch of the same map begins, which they have
-//! filled, and the one log lacks them.
-//! A lane is out exactly where one view has it, once. Each lane has one guest at most. At the end one token takes the place of each guest
-//! in turn (`become_guest`), and its lane: so it learns that what each has seen goes on to the one log. Where all guests settle it does
-//! the same, and hands each place on (`hand_on`) to the guest's own token.
+//! The rule (`IsOneLog` in `specs/Shared.antt`): there is one map, with its epoch, and each handle
+//! at home is its lane's, of this map. In each lane a log is current: what the handle at home
+//! knows, or what it knew when it was taken. What the lane's guest has seen goes on to that by no
+//! call of the guest. A renewal that is refused makes reads by the seats: then an epoch of the same
+//! map begins, which they have filled, and the one log lacks them. A lane is out exactly where one
+//! view has it, once. Each lane has one guest at most. At the end one token takes the place of each
+//! guest in turn (`become_guest`), and its lane: so it learns that what each has seen goes on to
+//! the one log. Where all guests settle it does the same, and hands each place on (`hand_on`) to
+//! the guest's own token.
 //!
-//! Each token keeps account of the handles that it takes, and of those that its guest gives back: so a get is bound to one handle's get.
+//! Each token keeps account of the handles that it takes, and of those that its guest gives back
+//! (`specs/Visits.antt`): so a get is bound to one handle's get, and a write to one handle's write,
+//! unless that is for nothing.
 //!
-//! What is left: no clause bounds a write's steps where no renewal comes between.
+//! What is left: no clause says how long a token waits for a lane.
 ghost use Rattle.std.specs.Prelude.{[], Some, ℕ, ◌≡◌, ◌≢◌, ◌*◌, ◌<◌, ◌≤◌, true, false};
 ghost use Rattle.nb_lasting.specs.Shared.{HasBegunAnew, HasDealt, HasGiven, HasTaken, FitsLanes, as_guest, dealer_left, guest_alone, guest_left, new_guest};
 ghost use Rattle.nb_lasting.specs.Holding.{CanDeal, CanGive, CanRenew};

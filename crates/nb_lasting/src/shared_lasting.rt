@@ -22,8 +22,8 @@ use std::marker::Model;
 use std::sync::atomic::AtomicU64;
 use std::sync::{Arc, Wait};
 
-/// A map without an end, which guests call. It is made anew, by whichever guest finds it full, while
-/// the others call.
+/// A map without an end, which guests call. It is made anew, by whichever guest finds it full,
+/// while the others call.
 #[derive(Drop)]
 pub struct SharedLasting {
     pub(crate) hall: Arc<Hall, Global>,
@@ -97,10 +97,11 @@ impl SharedLasting {
         Ok((SharedLasting { hall, token, room }, made))
     }
 
-    /// With all guests, in their order: how many keys the map has, exactly. Afterwards each guest knows
-    /// the one log of all calls, as if the map had been closed, and the map goes on. It takes memory
-    /// for some vectors of as many handles as there are guests. Where that is refused, or a guest is
-    /// missing, all are as they were. Whether they are this map's is asked for, as `close` does.
+    /// With all guests, in their order: how many keys the map has, exactly. Afterwards each guest
+    /// knows the one log of all calls, as if the map had been closed, and the map goes on. It takes
+    /// memory for some vectors of as many handles as there are guests. Where that is refused, or a
+    /// guest is missing, all are as they were. Whether they are this map's is asked for, as `close`
+    /// does.
     pub fn settle<R: Wait>(&mut self, rt: &R, guests: &mut [Guest]) -> Result<u64, SettleFault>
         requires of { All (λ guest. guest.of ≡ self.old.id) guests.old }
         ensures all { (result ≡ Err fault.NotAll) ↔ (AreAllGuests self.old guests.old → ⊥) }
@@ -118,8 +119,8 @@ impl SharedLasting {
         }
     }
 
-    /// With all guests, in their order: what is left of the map. It takes no memory. Any others come
-    /// back. Whether they are this map's can't be told when it runs, so it is asked for.
+    /// With all guests, in their order: what is left of the map. It takes no memory. Any others
+    /// come back. Whether they are this map's can't be told when it runs, so it is asked for.
     pub fn close<R: Wait>(
         self,
         rt: &R,

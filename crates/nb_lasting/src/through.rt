@@ -30,8 +30,8 @@ pub(crate) fn get_through<R: Wait>(
     ensures idle { IsIdleGuest lane token.new.me }
     ensures called { HasCalledIn lane token.old.me.0 token.new.me.0
         ((call.Get key, reply_at (call.Get key) result) ∷ []) }
-    ensures visited { HasVisited lane (λ there back. HasGot there.map key there.seat back.seat result)
-        token.old.me.0.account token.new.me.0.account }
+    ensures visited { HasVisited lane (λ there back. HasGot there.map
+        key there.seat back.seat result) token.old.me.0.account token.new.me.0.account }
 {
     hold(rt, row, token, lane);
     let Some(handle) = token.slot_mut(row, lane) else {
