@@ -225,7 +225,10 @@ wrote-alone before after call (Err fault.Full) alone rest wrote =
       tt,
       one_seat.quiet alone.only wrote.own wrote.answered.unmade,
       (
-        (just.0, one_seat.full alone.only wrote.own wrote.answered.unmade (key_of_call call) just.1),
+        (
+          just.0,
+          one_seat.full alone.only wrote.own wrote.answered.unmade (key_of_call call) just.1,
+        ),
         λ fresh.
             let few = crowded-by before after.seat call _ alone wrote.own
             (wrote.answered.unmade.number ∙ alone.only.first) filled fresh.asked wrote.non_blocking
@@ -424,7 +427,8 @@ pub too-many :
     → 2 ^ MAX_EXPONENT ≤ keys_in before
 too-many p before alone room many =
     let few : last_size p < length (numbers.entries (map_left many.ended)) = many.small in
-    let same = ap (λ m. length (numbers.entries m)) (ended-alone before many.ended alone many.left) in
+    let same = ap (λ m. length (numbers.entries m))
+    (ended-alone before many.ended alone many.left) in
     elim room [
       | inl more ↦ absurd (omega (arith, more, few, same))
       | inr great ↦ omega (arith, great, few, same)

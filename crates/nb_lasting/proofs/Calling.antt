@@ -74,7 +74,8 @@ module _
       × HasGoneOnBy taken.handle.seat.chain.number (log_of taken.knew)
       (log_of (known_of mid.0.filled mid.0.past handle.seat)) made
   goes =
-      subst (λ (f : List Event). KnowsIn f mid.0.past handle.seat (known_of f mid.0.past handle.seat)
+      subst (λ (f : List Event). KnowsIn f mid.0.past handle.seat
+      (known_of f mid.0.past handle.seat)
       × HasGoneOnBy taken.handle.seat.chain.number (log_of taken.knew)
       (log_of (known_of f mid.0.past handle.seat)) made) (sym taken.begun.0)
       (subst (λ (l : List Event). KnowsIn taken.epoch.filled l handle.seat
@@ -157,7 +158,8 @@ module _
 
     pub has-called : HasCalledIn lane before.0 after.0 made
     has-called =
-        subst (λ (l : List Event). HasGoneOnBy lane (log_of before.0.seen) (log_of l) made) (sym seen-is)
+        subst (λ (l : List Event). HasGoneOnBy lane (log_of before.0.seen) (log_of l) made)
+        (sym seen-is)
         (subst (HasGoneOnBy lane (log_of before.0.seen)
         (log_of (known_of mid.0.filled mid.0.past handle.seat))) (append-nil made)
         (goes_on lane (log_of before.0.seen) (log_of taken.knew)
@@ -196,7 +198,8 @@ crowded-away p plan seen legal k crowded =
 -- its calls, and what they tell of the answer
 pub write-logged :
     (m : MapOf) (call : Call) (before after : SeatOf) (limit : Limit)
-    (result : Result Reply PutFault) → HasWritten m call before after limit (replied_or_refused result)
+    (result : Result Reply PutFault) → HasWritten m call before after limit
+    (replied_or_refused result)
     → HasLogged before after (made_in call result)
     × ((lane : ℕ) (old new : LaneView) → HasCalledIn lane old new (made_in call result)
     → map_of_log (log_of new.seen) ≡ map_of_log (log after) → HasWrittenIn lane old new call result)

@@ -98,7 +98,8 @@ module _
             (knows-at i h.0 h.1),
       )))
 
-  step : (whole-log : List Entry) × HaveMetIn (logs-of have.holds.epoch) (seats_of whole) ended whole-log
+  step : (whole-log : List Entry) × HaveMetIn (logs-of have.holds.epoch)
+      (seats_of whole) ended whole-log
   step = one_log_for_all.ended {e = logs-of have.holds.epoch} {ended = ended} whole all left
 
   pub have-ended : HaveEnded guests ended
@@ -120,8 +121,10 @@ module _
           let one = there_is handles i (omega (arith, below, many, held.count)) in
           let seat : slice_get (seats_of whole) i ≡ Some one.0.seat =
           ap (λ xs. slice_get xs i) seats ∙ seat-at handles i one.0 one.1 in
-          let met = at-all (λ seat. (known : List Entry) → Knows (logs-of have.holds.epoch) seat known
-          → HasGoneOnBy seat.chain.number known step.0 []) (seats_of whole) i one.0.seat step.1.each seat
+          let met = at-all (λ seat. (known : List Entry)
+          → Knows (logs-of have.holds.epoch) seat known
+          → HasGoneOnBy seat.chain.number known step.0 [])
+          (seats_of whole) i one.0.seat step.1.each seat
           (log_of (have.holds.knew i)) (knows-at i one.0 one.1) in
           let was = have.current i guest at in
           let number : one.0.seat.chain.number ≡ guest.number =
@@ -170,9 +173,12 @@ more-come every left rest guest seen lane me new handles more come is here numbe
     (here ∙ come.count) step come.gathered.holds in
     record {
       done = come.done ++ guest ∷ [];
-      parts = come.parts ∙ (ap (λ l. come.done ++ l) is ∙ sym (append_assoc come.done (guest ∷ []) rest));
-      count = (let long = length-append come.done (guest ∷ []) in omega (arith, long, has.holds.held.count));
-      gathered = more-gathered (length come.done) come.done guest seen me new handles more come.gathered
+      parts = come.parts ∙ (ap (λ l. come.done ++ l) is
+          ∙ sym (append_assoc come.done (guest ∷ []) rest));
+      count = (let long = length-append come.done (guest ∷ []) in
+          omega (arith, long, has.holds.held.count));
+      gathered = more-gathered (length come.done) come.done guest seen me new handles more
+          come.gathered
           refl (number ∙ come.count) same has;
     }
 

@@ -31,7 +31,8 @@ pub called-from :
 called-from lane before me then made same called =
     subst (λ (l : List Event). HasGoneOnBy lane (log_of l) (log_of then.seen) made) same called
 
-pub if-ok : {A B : Type 0} (result : Result A B) (x : A) (P : A → Type 0) → result ≡ Ok x → IfOk result P
+pub if-ok : {A B : Type 0} (result : Result A B) (x : A) (P : A → Type 0) → result ≡ Ok x
+    → IfOk result P
     → P x
 if-ok result x P is holds = subst (λ r. IfOk r P) is holds
 
@@ -87,7 +88,8 @@ module _
       → me.0.guest ≡ Some own → own < n
       → CanComeHome own (log_of (still.know own)) (length after) me after
   can-come-home still own guest below =
-      subst (λ k. CanComeHome own (log_of (still.know own)) k me after) (sym still.held.count) (record {
+      subst (λ k. CanComeHome own (log_of (still.know own)) k me after) (sym still.held.count)
+      (record {
         knew = holds.knew;
         know = still.know;
         outs = holds.outs;
@@ -167,7 +169,8 @@ module _
   room-anew result is size counted own guest below keys least twice then room =
       let known = still-by result is in
       let first = there_is before own (omega (arith, below, holds.still.held.count)) in
-      let counts = if-ok result size (AreCountedIn me.0.map known.0.know before after) counted known.1 in
+      let counts = if-ok result size
+      (AreCountedIn me.0.map known.0.know before after) counted known.1 in
       record {
         whole = known.0.know own;
         current = goes_on own (log_of me.0.seen) (log_of (holds.knew own))
@@ -182,7 +185,8 @@ module _
       → result ≡ Ok size → KnowOneLog after
   one-log result is size counted =
       let known = still-by result is in
-      let counts = if-ok result size (AreCountedIn me.0.map known.0.know before after) counted known.1 in
+      let counts = if-ok result size
+      (AreCountedIn me.0.map known.0.know before after) counted known.1 in
       record { whole = counts.whole; logs = counts.logs }
 
   -- else a new map has room
@@ -192,9 +196,11 @@ module _
       → HasSlots keys p → HaveTooMany p after → ⊥
   room-left result is size counted p keys less fewer room many =
       let known = still-by result is in
-      has-room-left p n me.0.map me.0.filled me.0.past known.0.know known.0.know before after size keys
+      has-room-left p n me.0.map me.0.filled me.0.past known.0.know known.0.know before after size
+      keys
       some known.0.held
-      (if-ok result size (AreCountedIn me.0.map known.0.know before after) counted known.1) less fewer
+      (if-ok result size (AreCountedIn me.0.map known.0.know before after) counted known.1) less
+      fewer
       room many
 
 -- all are home
@@ -213,7 +219,8 @@ home-all own n whole me handles none can = (
 
 -- a guest that has seen nothing more
 pub nothing-seen :
-    (lane : ℕ) (before after : LaneView) → after.seen ≡ before.seen → IsReplayed (log_of before.seen)
+    (lane : ℕ) (before after : LaneView) → after.seen ≡ before.seen
+    → IsReplayed (log_of before.seen)
     → HasCalledIn lane before after []
 nothing-seen lane before after same replayed =
     subst (λ (l : List Event). HasGoneOnBy lane (log_of before.seen) (log_of l) []) (sym same)

@@ -27,7 +27,8 @@ use Rattle.nb_lasting.specs.declared.shared.LaneView.{LaneView}
 
 -- ---- lists
 
-pub there_is : {X : Type 0} (xs : List X) (i : ℕ) → i < length xs → (x : X) × (slice_get xs i ≡ Some x)
+pub there_is : {X : Type 0} (xs : List X) (i : ℕ) → i < length xs → (x : X)
+    × (slice_get xs i ≡ Some x)
 there_is [] i below = absurd (omega (arith, below))
 there_is (x ∷ xs) zero below = (x, refl)
 there_is (x ∷ xs) (suc i) below = there_is xs i (omega (arith, below))
@@ -118,8 +119,10 @@ gathered lane before after handles handle new holds taken found is = record {
   outs = ap (λ (m : Me (Option HandleOf) LaneView). m.0.outs) is
       ∙ (taken.outs ∙ ap (λ (outs : List Out). record { lane = lane; knew = taken.knew } ∷ outs)
       (holds.outs ∙ down_same holds.knew (with_current holds.knew lane taken.knew) lane
-      (λ i less. sym (with-else holds.knew lane i taken.knew (λ same. absurd (omega (arith, same, less)))))))
-      ∙ ap (λ (l : List Event). record { lane = lane; knew = l } ∷ down (with_current holds.knew lane taken.knew) lane)
+      (λ i less. sym (with-else holds.knew lane i taken.knew
+      (λ same. absurd (omega (arith, same, less)))))))
+      ∙ ap (λ (l : List Event). record { lane = lane; knew = l } ∷ down
+      (with_current holds.knew lane taken.knew) lane)
       (sym (with-here holds.knew lane taken.knew))
       ∙ sym (down_more (with_current holds.knew lane taken.knew) lane);
   slots = ap (λ (m : Me (Option HandleOf) LaneView). m.1) is
@@ -157,7 +160,8 @@ gathered lane before after handles handle new holds taken found is = record {
       where
         by : Same i lane → IsCurrent i new.0.seen (with_current holds.knew lane taken.knew i)
         by (inl (is-here, _)) =
-            subst (λ k. IsCurrent k new.0.seen (with_current holds.knew lane taken.knew k)) (sym is-here)
+            subst (λ k. IsCurrent k new.0.seen (with_current holds.knew lane taken.knew k))
+            (sym is-here)
             (subst (λ (l : List Event). IsCurrent lane new.0.seen l)
             (sym (with-here holds.knew lane taken.knew))
             (subst (λ (l : List Event). IsCurrent lane l taken.knew) (sym seen-is)
@@ -187,7 +191,8 @@ gathered lane before after handles handle new holds taken found is = record {
               down_long holds.knew lane,
             )) in
             let base = taken.same some-lane in
-            let elsewhere : i ≢ lane = λ at-lane. absurd (omega (arith, at-lane, below, holds.held.count)) in (
+            let elsewhere : i ≢ lane =
+            λ at-lane. absurd (omega (arith, at-lane, below, holds.held.count)) in (
               record {
                 map = one.0.map ∙ sym base.0 ∙ sym (ap (λ (v : LaneView). v.map) view);
                 number = one.0.number;
@@ -218,11 +223,13 @@ gathered lane before after handles handle new holds taken found is = record {
 
 -- a handle is gathered by the lane's guest, whose place the token has
 module _
-    (lane : ℕ) (before mid after new : Me (Option HandleOf) LaneView) (guest : Me (Option HandleOf) LaneView)
+    (lane : ℕ) (before mid after new : Me (Option HandleOf) LaneView)
+    (guest : Me (Option HandleOf) LaneView)
     (handles : List HandleOf) (handle : HandleOf) (idle : IsIdleGuest lane guest)
     (became : mid ≡ (as_guest before.0 guest.0, before.1)) (taken : HasTaken lane mid after)
     (found : after.1 ≡ (lane, Some handle) ∷ rest after.1)
-    (is : new ≡ (after.0, (lane, None) ∷ rest after.1)) (holds : HoldsBelow lane before handles) where
+    (is : new ≡ (after.0, (lane, None) ∷ rest after.1))
+    (holds : HoldsBelow lane before handles) where
   -- in the guest's place it holds what it held
   abbrev held-by : HoldsBelow lane (as_guest before.0 guest.0, before.1) handles
   held-by = record {
@@ -263,10 +270,12 @@ popped lane m filled past know handles before handle is held =
     let count : length handles ≡ lane = omega (arith, long, ap length is, held.count) in
     let at-last : slice_get before lane ≡ Some handle =
     ap (λ xs. slice_get xs lane) is
-    ∙ subst (λ n. slice_get (handles ++ handle ∷ []) n ≡ Some handle) count (snoc_last handles handle) in (
+    ∙ subst (λ n. slice_get (handles ++ handle ∷ []) n ≡ Some handle) count
+    (snoc_last handles handle) in (
       record {
         count = count;
-        each = λ i h at. held.each i h (ap (λ xs. slice_get xs i) is ∙ snoc_at handles handle i h at);
+        each = λ i h at. held.each i h (ap (λ xs. slice_get xs i) is
+            ∙ snoc_at handles handle i h at);
       },
       held.each lane handle at-last,
     )
@@ -349,7 +358,8 @@ module _
     current = can.current lane (omega arith);
   }
 
-  pub dealt : CanDealBelow (lane + 1) me before → HasDealt new after → CanDealBelow lane after handles
+  pub dealt : CanDealBelow (lane + 1) me before → HasDealt new after
+      → CanDealBelow lane after handles
   dealt can gone = record {
     knew = can.knew;
     know = can.know;
@@ -431,7 +441,8 @@ module _
   can-renew p last can =
       let one = (popped lane can.anew.shared can.anew.next.filled can.anew.next.past
       (λ _. can.anew.next.past) handles before handle popped-is can.anew.held).1 in
-      let outs : new.0.outs ≡ down can.knew (lane + 1) = ap (λ (v : LaneView). v.outs) new-view ∙ can.outs in
+      let outs : new.0.outs ≡ down can.knew (lane + 1) = ap (λ (v : LaneView). v.outs) new-view
+      ∙ can.outs in
       record {
         knew = can.knew lane;
         handle = handle;
@@ -449,7 +460,8 @@ module _
               (down_all can.knew (lane + 1) i (omega (arith, below, last)));
           met = λ out has.
               let is-out = down_has can.knew (lane + 1) out (subst (Has out) outs has) in
-              subst (λ (l : List Event). HasGoneOnBy out.lane (log_of l) (log_of can.anew.next.past) [])
+              subst (λ (l : List Event). HasGoneOnBy out.lane (log_of l)
+              (log_of can.anew.next.past) [])
               (sym is-out.1) (can.anew.met out.lane is-out.0);
         };
       }
@@ -478,7 +490,8 @@ module _
         knew = λ _. next.past;
         know = λ _. next.past;
         outs = ap (λ (v : LaneView). v.outs) gone.3
-            ∙ ap (λ (outs : List Out). all_knew next.past (rest_outs outs)) (outs-is can.knew can.outs)
+            ∙ ap (λ (outs : List Out). all_knew next.past (rest_outs outs))
+            (outs-is can.knew can.outs)
             ∙ down_knew next.past can.knew lane;
         slots = slots-left can.slots gone.4;
         held = record {
@@ -541,7 +554,8 @@ dealt-all n me handles none can = record {
   slots = can.slots ∙ ap blanks none;
 }
 
-pub done_ok : {A B P Q : Type 0} (result : Result A B) → (P → Q) → IfOk result (λ x. P) → OnOk result Q
+pub done_ok : {A B P Q : Type 0} (result : Result A B) → (P → Q) → IfOk result (λ x. P)
+    → OnOk result Q
 done_ok (Ok x) holds is = holds is
 done_ok (Err fault) holds is = tt
 
@@ -620,18 +634,21 @@ still-single n me handles some few holds =
     all-single n me.0.map me.0.filled me.0.past holds.still.know handles some few holds.still.held
 
 module _
-    (p : Plan) (me : Me (Option HandleOf) LaneView) (before after : List HandleOf) (some : 1 ≤ p.seats)
+    (p : Plan) (me : Me (Option HandleOf) LaneView) (before after : List HandleOf)
+    (some : 1 ≤ p.seats)
     (few : p.seats ≤ 256) (seated : FitsLanes p.seats me.0) (holds : HoldsStill p.seats me before)
     (settled : KnowOneLog before) where
   -- what a renewal makes of them
   pub deals :
       (result : Result ⊤ RenewFault) → IsPartedAnew p before after result
       → (length after ≡ p.seats)
-      × ((can : CanDealAnew (length after) me after) × IfOk result (λ done. can.anew.shared.chain.shape ≡ p))
+      × ((can : CanDealAnew (length after) me after)
+      × IfOk result (λ done. can.anew.shared.chain.shape ≡ p))
   deals result is =
       let count = anew.0.held.count in (
         count,
-        subst (λ n. (can : CanDealAnew n me after) × IfOk result (λ done. can.anew.shared.chain.shape ≡ p))
+        subst (λ n. (can : CanDealAnew n me after)
+            × IfOk result (λ done. can.anew.shared.chain.shape ≡ p))
             (sym count) (
               record {
                 knew = holds.knew;
@@ -645,7 +662,8 @@ module _
                   held = anew.0.held;
                   met = λ i below.
                       goes_on i (log_of (holds.knew i)) (log_of (holds.still.know i))
-                      (log_of anew.0.next.past) [] [] (holds.still.gone i below) (anew.0.met i below);
+                      (log_of anew.0.next.past) [] [] (holds.still.gone i below)
+                      (anew.0.met i below);
                 };
               },
               anew.1,
@@ -657,9 +675,11 @@ module _
 
       held : AreHeld me.0.map holds.epoch.filled holds.epoch.past p.seats holds.still.know before
       held =
-          subst (λ (f : List Event). AreHeld me.0.map f holds.epoch.past p.seats holds.still.know before)
+          subst (λ (f : List Event). AreHeld me.0.map f holds.epoch.past p.seats holds.still.know
+          before)
           begun.0
-          (subst (λ (l : List Event). AreHeld me.0.map me.0.filled l p.seats holds.still.know before)
+          (subst (λ (l : List Event). AreHeld me.0.map me.0.filled l p.seats holds.still.know
+          before)
           begun.1 holds.still.held)
 
       anew : AreRenewed p holds.still.know after result
@@ -672,7 +692,8 @@ module _
 
 -- they are all seats of their map
 pub all-of-map :
-    (n : ℕ) (me : Me (Option HandleOf) LaneView) (handles : List HandleOf) → 1 ≤ n → FitsLanes n me.0
+    (n : ℕ) (me : Me (Option HandleOf) LaneView) (handles : List HandleOf) → 1 ≤ n
+    → FitsLanes n me.0
     → HoldsStill n me handles → (single : AreSingle handles)
     → length handles ≡ single.shared.chain.shape.seats
 all-of-map n me handles some seated holds single =

@@ -37,11 +37,13 @@ replays (entry ∷ later) first first' same replayed' (is, replayed) = (
 called :
     (e : EpochOf) (before after : SeatOf) (whole : List Entry) (made : List (Call × Reply))
     → Knows e before whole → HasLogged before after made
-    → (longer : List Entry) × HasGoneOnBy before.chain.number whole longer made × Knows e after longer
+    → (longer : List Entry) × HasGoneOnBy before.chain.number whole longer made
+    × Knows e after longer
 called e before after whole made knows logged =
     let here : log after ≡ (logged.later ++ knows.later) ++ e.filled =
     logged.grown
-    ∙ (ap (λ l. logged.later ++ l) knows.here ∙ sym (append_assoc logged.later knows.later e.filled)) in
+    ∙ (ap (λ l. logged.later ++ l) knows.here
+    ∙ sym (append_assoc logged.later knows.later e.filled)) in
     let replayed : IsReplayed ((logged.later ++ knows.later) ++ e.past) =
     replays (logged.later ++ knows.later) e.filled e.past e.same e.replayed
     (subst IsReplayed here logged.replayed) in (
@@ -87,7 +89,8 @@ met :
     → All (IsOfEpoch e) (first ∷ seats) → EndedWith (first ∷ seats) ended
     → (whole : List Entry) × HaveMetIn e (first ∷ seats) ended whole
 met e first seats ended of left =
-    let all : HasAll (log_left ended) first = All-head (HasAll (log_left ended)) first seats left.logs in
+    let all : HasAll (log_left ended) first = All-head
+    (HasAll (log_left ended)) first seats left.logs in
     let knows = (All-head (IsOfEpoch e) first seats of).1 in
     let later : List Entry = all.later ++ knows.later in
     let is : log_left ended ≡ later ++ e.filled =

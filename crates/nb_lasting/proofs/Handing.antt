@@ -54,7 +54,11 @@ module _
       absurd cc
 
   hand-keeps :
-      IsOneLog p (record { words = s.words; homes = s.homes; views = slice_set s.views id (guest_left v) ++ guest_alone v ∷ [] })
+      IsOneLog p (record {
+        words = s.words;
+        homes = s.homes;
+        views = slice_set s.views id (guest_left v) ++ guest_alone v ∷ [];
+      })
   hand-keeps = record {
     shared = rule.shared;
     epoch = rule.epoch;
@@ -89,7 +93,8 @@ module _
             | inr there ↦ elim there [
               | inl mine ↦
                   let old = rule.held id v at
-                  (λ none-left. some-lane (sym (ap (λ (x : LaneView). x.outs) mine.1) ∙ none-left)) in
+                  (λ none-left. some-lane (sym (ap (λ (x : LaneView). x.outs) mine.1)
+                  ∙ none-left)) in
                   subst (IsOfMap rule.shared rule.epoch) mine.1
                   (record { map = old.map; filled = old.filled; past = old.past })
               | inr old ↦ rule.held k u old.1 some-lane

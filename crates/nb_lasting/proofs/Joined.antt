@@ -54,7 +54,8 @@ module _
       omega (arith, mine, theirs, count, single.few)
 
   pub joined-seats :
-      (whole : HandleOf) → whole.seat ≡ first.seat → whole.reserve ≡ first.reserve ++ all_seats others
+      (whole : HandleOf) → whole.seat ≡ first.seat → whole.reserve
+      ≡ first.reserve ++ all_seats others
       → seats_of whole ≡ seats_of_each handles
   joined-seats whole seat reserve =
       ap (λ (s : SeatOf). s ∷ whole.reserve) seat

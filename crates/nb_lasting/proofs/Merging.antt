@@ -25,11 +25,13 @@ module _
   Was : ℕ → LaneView → Type 0
   Was k u =
       (nobody ≡ u)
-      ⊎ (((k ≡ id) × (as_guest v w ≡ u)) ⊎ ((k ≢ other) × (k ≢ id) × (get_elem? s.views k ≡ some u)))
+      ⊎ (((k ≡ id) × (as_guest v w ≡ u)) ⊎ ((k ≢ other) × (k ≢ id)
+      × (get_elem? s.views k ≡ some u)))
 
   was : (k : ℕ) (u : LaneView) → get_elem? views-then k ≡ some u
       → (nobody ≡ u)
-      ⊎ (((k ≡ id) × (as_guest v w ≡ u)) ⊎ ((k ≢ other) × (k ≢ id) × (get_elem? s.views k ≡ some u)))
+      ⊎ (((k ≡ id) × (as_guest v w ≡ u)) ⊎ ((k ≢ other) × (k ≢ id)
+      × (get_elem? s.views k ≡ some u)))
   was k u found =
       elim (at_set (slice_set s.views id (as_guest v w)) other k nobody u found) [
         | inl spent ↦ inl spent.1
@@ -52,7 +54,11 @@ module _
       absurd cc
 
   merge-keeps :
-      IsOneLog p (record { words = s.words; homes = s.homes; views = slice_set (slice_set s.views id (as_guest v w)) other nobody })
+      IsOneLog p (record {
+        words = s.words;
+        homes = s.homes;
+        views = slice_set (slice_set s.views id (as_guest v w)) other nobody;
+      })
   merge-keeps = record {
     shared = rule.shared;
     epoch = rule.epoch;
@@ -87,7 +93,8 @@ module _
             | inr there ↦ elim there [
               | inl mine ↦
                   let old = rule.held id v at
-                  (λ none-left. some-lane (sym (ap (λ (x : LaneView). x.outs) mine.1) ∙ none-left)) in
+                  (λ none-left. some-lane (sym (ap (λ (x : LaneView). x.outs) mine.1)
+                  ∙ none-left)) in
                   subst (IsOfMap rule.shared rule.epoch) mine.1
                   (record { map = old.map; filled = old.filled; past = old.past })
               | inr old ↦ rule.held k u old.2 some-lane

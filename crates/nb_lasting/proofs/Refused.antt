@@ -30,12 +30,15 @@ use Rattle.nb_lasting.specs.Shared.{EpochIn, IsLane, IsOfGuest, KnowsIn, as_even
 -- ---- whose call an entry is
 
 module _ (entry : Entry) (log : List Entry) where
-  pub calls-here : calls_of entry.seat (entry ∷ log) ≡ (entry.call, entry.reply) ∷ calls_of entry.seat log
+  pub calls-here : calls_of entry.seat (entry ∷ log)
+      ≡ (entry.call, entry.reply) ∷ calls_of entry.seat log
   calls-here = by (decided entry.seat entry.seat)
     where
       by : Same entry.seat entry.seat
           → calls_of entry.seat (entry ∷ log) ≡ (entry.call, entry.reply) ∷ calls_of entry.seat log
-      by (inl (_, is)) = ap (λ b. if b then (entry.call, entry.reply) ∷ calls_of entry.seat log else calls_of entry.seat log) is
+      by (inl (_, is)) = ap
+          (λ b. if b then (entry.call, entry.reply) ∷ calls_of entry.seat log else calls_of
+          entry.seat log) is
       by (inr (not, _)) = absurd (not refl)
 
   pub calls-else : (i : ℕ) → i ≢ entry.seat → calls_of i (entry ∷ log) ≡ calls_of i log
@@ -43,7 +46,8 @@ module _ (entry : Entry) (log : List Entry) where
     where
       by : Same entry.seat i → calls_of i (entry ∷ log) ≡ calls_of i log
       by (inl (same, _)) = absurd (other (sym same))
-      by (inr (_, is)) = ap (λ b. if b then (entry.call, entry.reply) ∷ calls_of i log else calls_of i log) is
+      by (inr (_, is)) = ap
+          (λ b. if b then (entry.call, entry.reply) ∷ calls_of i log else calls_of i log) is
 
 -- ---- reads after a log
 
@@ -135,10 +139,12 @@ if-refused (Ok x) bad holds = absurd (let wrong : false ≡ true = bad in cc)
 if-refused (Err fault) bad holds = holds
 
 module _
-    (n : ℕ) (m : MapOf) (e : EpochIn) (knew : ℕ → List Event) (before : List HandleOf) (some : 1 ≤ n)
+    (n : ℕ) (m : MapOf) (e : EpochIn) (knew : ℕ → List Event) (before : List HandleOf)
+    (some : 1 ≤ n)
     (fits : m.chain.shape.seats ≡ n) (old : All (IsOfGuest n) (log_of e.past))
     (held : AreHeld m e.filled e.past n knew before) (settled : KnowOneLog before)
-    (joined whole : HandleOf) (one : joined.map ≡ m) (seats : seats_of joined ≡ seats_of_each before)
+    (joined whole : HandleOf) (one : joined.map ≡ m)
+    (seats : seats_of joined ≡ seats_of_each before)
     (rested : IsRested joined whole) where
   -- all calls until then, and those before
   abbrev total : List Entry

@@ -141,7 +141,8 @@ zip-weaker P Q weaker [] (y ∷ ys) all = absurd all
 zip-weaker P Q weaker (x ∷ xs) [] all = absurd all
 zip-weaker P Q weaker (x ∷ xs) (y ∷ ys) all = (weaker x y all.0, zip-weaker P Q weaker xs ys all.1)
 
-pub length-zip : (P : SeatOf → SeatOf → Type 0) (xs ys : List SeatOf) → AllZip P xs ys → length xs ≡ length ys
+pub length-zip : (P : SeatOf → SeatOf → Type 0) (xs ys : List SeatOf) → AllZip P xs ys → length xs
+    ≡ length ys
 length-zip P [] [] all = refl
 length-zip P [] (y ∷ ys) all = absurd all
 length-zip P (x ∷ xs) [] all = absurd all
@@ -153,9 +154,11 @@ knows-of e whole i = known_of e.filled e.past (get_or (seats_of whole) i whole.s
 
 module _
     (Q : List (Call × Reply) → Type 0) (n : ℕ) (m : MapOf) (e : EpochIn) (knew : ℕ → List Event)
-    (before : List HandleOf) (held : AreHeld m e.filled e.past n knew before) (joined whole : HandleOf)
+    (before : List HandleOf) (held : AreHeld m e.filled e.past n knew before)
+    (joined whole : HandleOf)
     (one : joined.map ≡ m) (seats : seats_of joined ≡ seats_of_each before)
-    (same : IsSameMap joined whole) (moved : AllZip (HasMade Q) (seats_of joined) (seats_of whole)) where
+    (same : IsSameMap joined whole) (moved : AllZip (HasMade Q) (seats_of joined)
+    (seats_of whole)) where
   pub long-after : length (seats_of whole) ≡ n
   long-after =
       sym (length-zip (HasMade Q) (seats_of joined) (seats_of whole) moved) ∙ ap length seats
@@ -182,8 +185,10 @@ module _
         (
           is.0,
           is.1,
-          subst (λ x. HasGoneOnBy i (log_of (knew i)) (log_of (known_of e.filled e.past x)) is.0) here
-              (subst (λ k. HasGoneOnBy k (log_of (knew i)) (log_of (known_of e.filled e.past s)) is.0)
+          subst (λ x. HasGoneOnBy i (log_of (knew i))
+              (log_of (known_of e.filled e.past x)) is.0) here
+              (subst (λ k. HasGoneOnBy k (log_of (knew i))
+              (log_of (known_of e.filled e.past s)) is.0)
               number knows.1),
         ),
       )
@@ -313,7 +318,8 @@ pub counted-still :
     × IfOk result (AreCountedIn m still.know before after)
 counted-still n m e knew before after held single one (Err fault) is = (
   subst (AreStill m e.filled e.past n knew) (sym is.parted)
-      (kept-still n m e knew before held is.joined is.whole (is.one_map single ∙ one) is.seats is.kept),
+      (kept-still n m e knew before held is.joined is.whole
+      (is.one_map single ∙ one) is.seats is.kept),
   tt,
 )
 counted-still n m e knew before after held single one (Ok size) is =
@@ -360,15 +366,18 @@ counted-still n m e knew before after held single one (Ok size) is =
     -- what each handle knows then leaves the map of all calls
     knows-all :
         (i : ℕ) → i < n
-        → map_of_log (log_of (knows-of e is.whole i)) ≡ map_of_log (log_of is.settled.tables.history)
+        → map_of_log (log_of (knows-of e is.whole i))
+        ≡ map_of_log (log_of is.settled.tables.history)
     knows-all i below =
         let seat = get_or (seats_of is.whole) i is.whole.seat in
-        let at = seat-after IsNone n m e knew before held is.joined is.whole same-map is.seats is.same
+        let at = seat-after IsNone n m e knew before held is.joined is.whole same-map is.seats
+        is.same
         moved i below in
         let caught = zip-at (HasCaughtUp is.joined.map (log_of is.settled.tables.history))
         (seats_of is.joined) (seats_of is.whole) i seat is.settled.each at in
         seen-map e seat (knows-of e is.whole i)
-        (knows-after IsNone n m e knew before held is.joined is.whole same-map is.seats is.same moved
+        (knows-after IsNone n m e knew before held is.joined is.whole same-map is.seats is.same
+        moved
         i below)
         ∙ ap map_of_log caught.2.knows
 
@@ -401,7 +410,8 @@ counted-still n m e knew before after held single one (Ok size) is =
         seat-here : slice_get (seats_of is.joined) i ≡ Some h.seat
         seat-here = ap (λ xs. slice_get xs i) is.seats ∙ seat-at before i h at
 
-        chain-here : slice_get (map (λ (seat : SeatOf). seat.chain) (seats_of is.joined)) i ≡ Some h.seat.chain
+        chain-here : slice_get (map (λ (seat : SeatOf). seat.chain) (seats_of is.joined)) i
+            ≡ Some h.seat.chain
         chain-here =
             slice_get-map (λ (seat : SeatOf). seat.chain) (seats_of is.joined) i
             ∙ ap (option_map (λ (seat : SeatOf). seat.chain)) seat-here
@@ -414,7 +424,8 @@ counted-still n m e knew before after held single one (Ok size) is =
 
 -- where all seats know one log, that one is left
 one-left :
-    (seats : List SeatOf) (whole : List Entry) (first : SeatOf) (ended : EndedOf) → EndedWith seats ended
+    (seats : List SeatOf) (whole : List Entry) (first : SeatOf) (ended : EndedOf)
+    → EndedWith seats ended
     → slice_get seats 0 ≡ Some first
     → ((i : ℕ) (seat : SeatOf) → slice_get seats i ≡ Some seat
     → (log seat ≡ whole) × (seat.chain.number ≡ i))
@@ -439,7 +450,8 @@ one-left seats whole first ended left at each =
         append_cancel_right all.later (entry ∷ later) whole
         (ap (λ l. all.later ++ l) (sym own.0) ∙ sym all.is ∙ is) in
         let none-own : calls_of entry.seat (entry ∷ later) ≡ [] =
-        ap (calls_of entry.seat) (sym same) ∙ ap (λ k. calls_of k all.later) (sym own.1) ∙ all.others in
+        ap (calls_of entry.seat) (sym same) ∙ ap (λ k. calls_of k all.later) (sym own.1)
+        ∙ all.others in
         let some-own : calls_of entry.seat (entry ∷ later)
         ≡ (entry.call, entry.reply) ∷ calls_of entry.seat later =
         ap (λ b. cond b ((entry.call, entry.reply) ∷ calls_of entry.seat later)
@@ -453,7 +465,8 @@ pub has-room-left :
     → AreCountedIn m counted-know before after size → size < 2 ^ MAX_EXPONENT → size ≤ keys
     → HasSlots keys p → HaveTooMany p after
     → ⊥
-has-room-left p n m filled past know counted-know before after size keys some held counted few fewer room many =
+has-room-left p n m filled past know counted-know before after size keys some held counted few fewer
+    room many =
     let first = get_or (seats_of_each after) 0 many.0.seat in
     let at : slice_get (seats_of_each after) 0 ≡ Some first =
     slice_get-get_or (seats_of_each after) 0 many.0.seat
@@ -482,7 +495,8 @@ module _
       let knows = (held.each i h at).1 in
       record { later = knows.later; here = knows.here; is = knows.is; replayed = knows.replayed }
 
-  pub anew : (joined whole : HandleOf) → seats_of joined ≡ seats_of_each before → HasRenewed p joined whole
+  pub anew : (joined whole : HandleOf) → seats_of joined ≡ seats_of_each before
+      → HasRenewed p joined whole
       → (anew : AreAnew p.seats knew (map (handle_on whole.map) (seats_of whole)))
       × (anew.shared.chain.shape ≡ p)
   anew joined whole seats renewed = (
@@ -504,13 +518,16 @@ module _
           subst (All (IsOfEpoch (logs-of e))) (sym seats)
           (all-from (IsOfEpoch (logs-of e)) (seats_of_each before)
           (λ i s at.
-          let h = handle-at before i s at in
-          (log_of (knew i), subst (λ s. Knows (logs-of e) s (log_of (knew i))) h.2 (knows-at i h.0 h.1))))
+          let h = handle-at before i s at in (
+            log_of (knew i),
+            subst (λ s. Knows (logs-of e) s (log_of (knew i))) h.2 (knows-at i h.0 h.1),
+          )))
 
       step :
           (next : EpochOf) × HaveMetIn (logs-of e) (seats_of joined) renewed.ended next.past
           × AllKnow next whole next.past
-      step = one_log_for_all.renewed {e = logs-of e} {p = p} {before = joined} {after = whole} all renewed
+      step = one_log_for_all.renewed {e = logs-of e} {p = p} {before = joined} {after = whole} all
+          renewed
 
       next : EpochIn
       next = record {
@@ -524,7 +541,8 @@ module _
       shape : whole.map.chain.shape ≡ p
       shape = renewed.begun.made.shape
 
-      numbered : map (λ (seat : SeatOf). seat.chain.number) (seats_of whole) ≡ range_with_len 0 p.seats
+      numbered : map (λ (seat : SeatOf). seat.chain.number) (seats_of whole)
+          ≡ range_with_len 0 p.seats
       numbered =
           renewed.begun.begun.numbered ∙ ap (λ (q : Plan). range_with_len 0 q.seats) shape
 
@@ -539,7 +557,8 @@ module _
           → IsLane whole.map i h × KnowsIn next.filled next.past h.seat next.past
       each i h at =
           let s = mapped-at whole.map (seats_of whole) i h at in
-          let knows = at-all (λ seat. Knows step.0 seat step.0.past) (seats_of whole) i s.0 step.2 s.1 in
+          let knows = at-all (λ seat. Knows step.0 seat step.0.past)
+          (seats_of whole) i s.0 step.2 s.1 in
           subst (λ (x : HandleOf). IsLane whole.map i x
           × KnowsIn next.filled next.past x.seat next.past) (sym s.2) (
             record {
@@ -564,10 +583,12 @@ module _
           let h = get_or before i d in
           let seat = ap (λ xs. slice_get xs i) seats ∙ seat-at before i h at in
           let gone = at-all (λ seat. (known : List Entry) → Knows (logs-of e) seat known
-          → HasGoneOnBy seat.chain.number known step.0.past []) (seats_of joined) i h.seat step.1.each seat
+          → HasGoneOnBy seat.chain.number known step.0.past [])
+          (seats_of joined) i h.seat step.1.each seat
           (log_of (knew i)) (knows-at i h at) in
           subst (λ l. HasGoneOnBy i (log_of (knew i)) l []) (sym (log-as-events step.0.past))
-          (subst (λ n. HasGoneOnBy n (log_of (knew i)) step.0.past []) (held.each i h at).0.number gone)
+          (subst (λ n. HasGoneOnBy n (log_of (knew i)) step.0.past [])
+          (held.each i h at).0.number gone)
 
 -- ---- a new map
 
@@ -584,10 +605,15 @@ module _
       (i : ℕ) (h : HandleOf) → slice_get handles i ≡ Some h
       → IsLane whole.map i h × (log h.seat ≡ [])
   new-lanes i h at =
-      let s = mapped-at whole.map (seats_of whole) i h (ap (λ xs. slice_get xs i) (sym parted) ∙ at) in
+      let s = mapped-at whole.map (seats_of whole) i h
+      (ap (λ xs. slice_get xs i) (sym parted) ∙ at) in
       let new = new-at (range_with_len 0 n) i s.0 (ap (λ xs. slice_get xs i) (sym seats) ∙ s.1) in
       let below : i < n =
-      omega (arith, slice_get_within (range_with_len 0 n) i new.0 new.1, length-range_with_len 0 n) in
+      omega (
+        arith,
+        slice_get_within (range_with_len 0 n) i new.0 new.1,
+        length-range_with_len 0 n,
+      ) in
       let number : new.0 ≡ i =
       (let a = get_or_from_slice_get (range_with_len 0 n) i new.0 0 new.1 in
       let b = get_or-range_with_len 0 n i 0 below in
@@ -601,7 +627,8 @@ module _
         ap (λ (x : HandleOf). log x.seat) s.2 ∙ ap log new.2,
       )
     where
-      new-at : (ns : List ℕ) (i : ℕ) (s : SeatOf) → slice_get (map (new_seat whole.map) ns) i ≡ Some s
+      new-at : (ns : List ℕ) (i : ℕ) (s : SeatOf) → slice_get (map (new_seat whole.map) ns) i
+          ≡ Some s
           → (k : ℕ) × (slice_get ns i ≡ Some k) × (s ≡ new_seat whole.map k)
       new-at [] i s at = absurd (omega (arith, slice_get_within [] i s at))
       new-at (k ∷ ns) zero s at = (k, refl, sym (some-same (new_seat whole.map k) s at))

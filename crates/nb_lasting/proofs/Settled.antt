@@ -35,7 +35,8 @@ use Rattle.nb_lasting.specs.declared.shared.LaneView.{LaneView}
 
 pub handed-gathered :
     (lane : ℕ) (seen : List Event) (knew : ℕ → List Event) (me new : Me (Option HandleOf) LaneView)
-    (handles : List HandleOf) → new ≡ (guest_left me.0, me.1) → HasGathered lane seen knew me handles
+    (handles : List HandleOf) → new ≡ (guest_left me.0, me.1)
+    → HasGathered lane seen knew me handles
     → HasGathered lane seen knew new handles
 handed-gathered lane seen knew me new handles is has =
     subst (λ m. HasGathered lane seen knew m handles) (sym is) (record {
@@ -91,9 +92,11 @@ module _
     knew = can.knew lane;
     whole = can.know lane;
     handle = handle;
-    holds = holds-last lane me new after handles before handle popped-is is can.knew can.know can.outs
+    holds = holds-last lane me new after handles before handle popped-is is can.knew can.know
+        can.outs
         can.held;
-    guest = ap (λ (v : LaneView). v.guest) (new-view lane me new after handles before handle popped-is is)
+    guest = ap (λ (v : LaneView). v.guest)
+        (new-view lane me new after handles before handle popped-is is)
         ∙ guest;
   }
 
@@ -118,7 +121,8 @@ module _
             ∙ ap (λ (v : LaneView). log_of (known_of v.filled v.past handle.seat))
             (new-view lane me new after handles before handle popped-is is)
             ∙ (known-of me.0.filled me.0.past handle.seat (can.know lane)
-            (knows-last lane me new after handles before handle popped-is is can.knew can.know can.outs
+            (knows-last lane me new after handles before handle popped-is is can.knew can.know
+            can.outs
             can.held)).0
             ∙ can.one lane (omega arith),
       )
@@ -145,7 +149,8 @@ get-set-else : (guests : List GuestOf) (k i : ℕ) (guest old : GuestOf) → (i 
 get-set-else guests k i guest old other at =
     slice_get-get_or (slice_set guests k guest) i old
     (omega (arith, slice_get_within guests i old at, length-set guests k guest))
-    ∙ ap Some (get_or-set_other guests k i guest old other ∙ get_or_from_slice_get guests i old old at)
+    ∙ ap Some (get_or-set_other guests k i guest old other
+    ∙ get_or_from_slice_get guests i old old at)
 
 pub know-none :
     (n : ℕ) (whole : List Entry) (guests : List GuestOf) → n ≡ length guests
@@ -207,11 +212,13 @@ lent-more every i guest me new handles more come count at number lent =
     drop-cons every i guest (slice_get_within every i guest at)
     ∙ (ap (λ (g : GuestOf). g ∷ drop (suc i) every) (get_or_from_slice_get every i guest guest at)
     ∙ ap (λ k. guest ∷ drop k every) next) in
-    more-come every (drop i every) (drop (i + 1) every) guest lent.0 guest.number me new handles more
+    more-come every (drop i every)
+    (drop (i + 1) every) guest lent.0 guest.number me new handles more
     come left (number ∙ sym count) (number ∙ sym count) lent.1 lent.2
 
 pub lent-count :
-    (i : ℕ) (guest : GuestOf) (me new : Me (Option HandleOf) LaneView) (handles more : List HandleOf)
+    (i : ℕ) (guest : GuestOf) (me new : Me (Option HandleOf) LaneView)
+    (handles more : List HandleOf)
     → HoldsBelow guest.number me handles → guest.number ≡ i → HasLent guest me handles new more
     → length more ≡ i + 1
 lent-count i guest me new handles more holds number lent =
@@ -297,7 +304,8 @@ module _
     slots = holds.slots;
     held = still.held;
     one = λ i below.
-        one-log n me.0.map me.0.filled me.0.past still.know after counts.whole still.held counts.logs i
+        one-log n me.0.map me.0.filled me.0.past still.know after counts.whole still.held
+        counts.logs i
         0 below (omega (arith, some));
   }
 
@@ -313,9 +321,11 @@ module _
     each = each;
     know = know;
     made = subst (λ k. All (IsOfGuest k) settled-log) (sym many)
-        (one-made n me.0.map me.0.filled me.0.past still.know after counts.whole still.held counts.logs 0
+        (one-made n me.0.map me.0.filled me.0.past still.know after counts.whole still.held
+        counts.logs 0
         (omega (arith, some))
-        (subst (λ k. All (IsOfGuest k) counts.whole) holds.still.held.count counts.made) seated.made);
+        (subst (λ k. All (IsOfGuest k) counts.whole) holds.still.held.count counts.made)
+        seated.made);
     keys = (let first = there_is before 0 (omega (arith, some, holds.still.held.count)) in
         (counts.at 0 first.0 first.1).keys);
   }
@@ -371,10 +381,15 @@ one_log_so_far = λ n shared new last settled size made come called end. (
       each = λ i first guest at at'.
           let at-map : slice_get (map (with_log end.whole) last) i ≡ Some guest =
           ap (λ l. slice_get l i) (sym end.know) ∙ at' in
-          let old = there_is last i (omega (arith, slice_get_within (map (with_log end.whole) last) i guest at-map, length-map last (with_log end.whole))) in
+          let old = there_is last i (omega (
+            arith,
+            slice_get_within (map (with_log end.whole) last) i guest at-map,
+            length-map last (with_log end.whole),
+          )) in
           let is : with_log end.whole old.0 ≡ guest =
           some-same (with_log end.whole old.0) guest
-          (sym (slice_get-map (with_log end.whole) last i ∙ ap (option_map (with_log end.whole)) old.1) ∙ at-map) in
+          (sym (slice_get-map (with_log end.whole) last i
+          ∙ ap (option_map (with_log end.whole)) old.1) ∙ at-map) in
           subst (λ (g : GuestOf). GuestHasCalled first g (made i)) is
           (then-called first old.0 (with_log end.whole old.0) (made i) []
           (called.each i first old.0 at old.1)

@@ -54,7 +54,8 @@ holders_set i (x ∷ xs) zero v w at =
     omega (arith, same)
 holders_set i (x ∷ xs) (suc id) v w at = omega (arith, holders_set i xs id v w at)
 
-pub times_here : (out : Out) (outs : List Out) → times_out out.lane (out ∷ outs) ≡ 1 + times_out out.lane outs
+pub times_here : (out : Out) (outs : List Out) → times_out out.lane (out ∷ outs)
+    ≡ 1 + times_out out.lane outs
 times_here out outs = here (decided out.lane out.lane)
   where
     here : Same out.lane out.lane → times_out out.lane (out ∷ outs) ≡ 1 + times_out out.lane outs
@@ -115,7 +116,8 @@ holders_have i (x ∷ xs) zero v at =
 holders_have i (x ∷ xs) (suc id) v at = omega (arith, holders_have i xs id v at)
 
 holders_two :
-    (i : ℕ) (views : List LaneView) (id other : ℕ) (v u : LaneView) → other ≢ id → get_elem? views id ≡ some v
+    (i : ℕ) (views : List LaneView) (id other : ℕ) (v u : LaneView) → other ≢ id
+    → get_elem? views id ≡ some v
     → get_elem? views other ≡ some u
     → times_out i v.outs + times_out i u.outs ≤ holders i views
 holders_two i [] id other v u differ at at' = absurd (some-ne-none v (sym at))
@@ -224,14 +226,18 @@ module _
           by (inr (_, old)) = rule.homes i y old
 
       words :
-          (i : ℕ) → i < p.seats → Same i lane → slice_index (slice_set s.words (word_of lane) out) (word_of i) ≡ 0
+          (i : ℕ) → i < p.seats → Same i lane
+          → slice_index (slice_set s.words (word_of lane) out) (word_of i) ≡ 0
           → absent (get_elem? (slice_set s.homes lane none) i) ≡ 0
       words i below (inl (is, _)) home =
-          absurd (is-out (sym (get_or-set_same s.words (word_of lane) out 0 (omega (arith, within, rule.long)))
-          ∙ (ap (λ n. slice_index (slice_set s.words (word_of lane) out) (word_of n)) (sym is) ∙ home)))
+          absurd (is-out (sym (get_or-set_same s.words (word_of lane) out 0
+          (omega (arith, within, rule.long)))
+          ∙ (ap (λ n. slice_index (slice_set s.words (word_of lane) out) (word_of n)) (sym is)
+          ∙ home)))
       words i below (inr (other, _)) home =
           ap absent (set_else s.homes lane i none other)
-          ∙ rule.words i below (sym (get_or-set_other s.words (word_of lane) (word_of i) out 0 (apart i lane other)) ∙ home)
+          ∙ rule.words i below (sym (get_or-set_other s.words (word_of lane) (word_of i) out 0
+          (apart i lane other)) ∙ home)
 
       once :
           (i : ℕ) → Same i lane
@@ -254,7 +260,8 @@ module _
           omega (arith, moved, more, rule.once i, same)
 
       held :
-          (id' : ℕ) (v : LaneView) → get_elem? (slice_set s.views id taken) id' ≡ some v → v.outs ≢ []
+          (id' : ℕ) (v : LaneView) → get_elem? (slice_set s.views id taken) id' ≡ some v
+          → v.outs ≢ []
           → IsOfMap rule.shared rule.epoch v
       held id' v found some-lane = by (at_set s.views id id' taken v found)
         where
@@ -338,7 +345,8 @@ module _
     (p : Plan) (s : LaneMoment) (rule : IsOneLog p s) (id : ℕ) (me : Me (Option HandleOf) LaneView)
     (at : get_elem? s.views id ≡ some me.0) (lane : ℕ) (within : lane < p.seats) (out : ℕ)
     (is-out : out ≢ 0) where
-  same-state : IsOneLog p (stepped s (word_of lane) (slice_index s.words (word_of lane)) id me.1 me.0 keeps)
+  same-state : IsOneLog p (stepped s (word_of lane) (slice_index s.words
+      (word_of lane)) id me.1 me.0 keeps)
   same-state =
       subst (λ ws. IsOneLog p (record {
         words = ws;
@@ -355,9 +363,11 @@ module _
   abbrev Goes : ℕ → ℕ → Type 0
   Goes slots k = (w : LaneView) × (a : Act (Option HandleOf)) × Valid s.homes me.1 a
       × IsOneLog p (stepped s (word_of lane) k id me.1 w a)
-      × Takes (step slots (word_of lane) 0 out none) me (slice_index s.words (word_of lane)) (w, carried_after me.1 a)
+      × Takes (step slots (word_of lane) 0 out none) me (slice_index s.words (word_of lane))
+      (w, carried_after me.1 a)
 
-  hit : (slots : ℕ) → length s.homes ≡ slots → slice_index s.words (word_of lane) ≡ 0 → Goes slots out
+  hit : (slots : ℕ) → length s.homes ≡ slots → slice_index s.words (word_of lane) ≡ 0
+      → Goes slots out
   hit slots homes is =
       let home : absent (get_elem? s.homes lane) ≡ 0 = rule.words lane within is in
       let y = present s.homes lane (omega (arith, within, rule.count)) home in
@@ -369,7 +379,10 @@ module _
         (
           (λ _ other same-word.
               let e : lane ≡ other = omega (arith, same-word) in
-              subst (λ l. HasTaken l me (has-taken lies.0, carried_after me.1 (takes lane (Some lies.0)))
+              subst (λ l. HasTaken l me (
+                has-taken lies.0,
+                carried_after me.1 (takes lane (Some lies.0)),
+              )
               × FitsLanes slots (has-taken lies.0)) e (
                 record {
                   handle = lies.0;
@@ -400,7 +413,8 @@ module _
         made = subst (λ n. All (IsOfGuest n) (log_of rule.epoch.past)) many rule.made;
       }
 
-  miss : (slots : ℕ) → slice_index s.words (word_of lane) ≢ 0 → Goes slots (slice_index s.words (word_of lane))
+  miss : (slots : ℕ) → slice_index s.words (word_of lane) ≢ 0
+      → Goes slots (slice_index s.words (word_of lane))
   miss slots not = (me.0, keeps, tt, same-state, ((λ is. absurd (not is)), (λ _. refl)))
 
 pub take_allowed :
@@ -409,7 +423,8 @@ pub take_allowed :
     → Allows (IsOneLog p) slots id me (word_of lane) (λ n. either (n == 0) out n)
     (Takes (step slots (word_of lane) 0 out none) me)
 take_allowed p slots id me lane within out is-out s rule homes at fits =
-    exchanged (slice_index s.words (word_of lane)) 0 out (Goes p s rule id me at lane within out is-out slots)
+    exchanged (slice_index s.words (word_of lane)) 0 out
+    (Goes p s rule id me at lane within out is-out slots)
     (hit p s rule id me at lane within out is-out slots homes)
     (miss p s rule id me at lane within out is-out slots)
 
@@ -419,7 +434,11 @@ module _
     (p : Plan) (s : LaneMoment) (rule : IsOneLog p s) (id : ℕ) (v : LaneView)
     (at : get_elem? s.views id ≡ some v) (lane : ℕ) (within : lane < p.seats) where
   with-word : (out : ℕ) → out ≢ 0
-      → IsOneLog p (record { words = slice_set s.words (word_of lane) out; homes = s.homes; views = s.views })
+      → IsOneLog p (record {
+        words = slice_set s.words (word_of lane) out;
+        homes = s.homes;
+        views = s.views;
+      })
   with-word out is-out = record {
     shared = rule.shared;
     epoch = rule.epoch;
@@ -444,19 +463,35 @@ module _
     one_dealer = rule.one_dealer;
   }
     where
-      words : (i : ℕ) → i < p.seats → Same i lane → slice_index (slice_set s.words (word_of lane) out) (word_of i) ≡ 0
+      words : (i : ℕ) → i < p.seats → Same i lane
+          → slice_index (slice_set s.words (word_of lane) out) (word_of i) ≡ 0
           → absent (get_elem? s.homes i) ≡ 0
       words i below (inl (is, _)) home =
-          absurd (is-out (sym (get_or-set_same s.words (word_of lane) out 0 (omega (arith, within, rule.long)))
-          ∙ (ap (λ n. slice_index (slice_set s.words (word_of lane) out) (word_of n)) (sym is) ∙ home)))
+          absurd (is-out (sym (get_or-set_same s.words (word_of lane) out 0
+          (omega (arith, within, rule.long)))
+          ∙ (ap (λ n. slice_index (slice_set s.words (word_of lane) out) (word_of n)) (sym is)
+          ∙ home)))
       words i below (inr (other, _)) home =
-          rule.words i below (sym (get_or-set_other s.words (word_of lane) (word_of i) out 0 (apart i lane other)) ∙ home)
+          rule.words i below (sym (get_or-set_other s.words (word_of lane) (word_of i) out 0
+          (apart i lane other)) ∙ home)
 
   with-view : (out : ℕ)
-      → IsOneLog p (record { words = slice_set s.words (word_of lane) out; homes = s.homes; views = s.views })
-      → IsOneLog p (record { words = slice_set s.words (word_of lane) out; homes = s.homes; views = slice_set s.views id v })
+      → IsOneLog p (record {
+        words = slice_set s.words (word_of lane) out;
+        homes = s.homes;
+        views = s.views;
+      })
+      → IsOneLog p (record {
+        words = slice_set s.words (word_of lane) out;
+        homes = s.homes;
+        views = slice_set s.views id v;
+      })
   with-view out keeps-rule =
-      subst (λ vs. IsOneLog p (record { words = slice_set s.words (word_of lane) out; homes = s.homes; views = vs }))
+      subst (λ vs. IsOneLog p (record {
+        words = slice_set s.words (word_of lane) out;
+        homes = s.homes;
+        views = vs;
+      }))
       (sym (set_again s.views id v at)) keeps-rule
 
 pub mark_allowed :
@@ -466,15 +501,24 @@ pub mark_allowed :
     (Marks (step slots (word_of lane) old new none) me)
 mark_allowed p slots id me lane old new within is-new s rule homes at fits =
     exchanged (slice_index s.words (word_of lane)) old new Goal
-    (λ is. (me.0, keeps, tt, with-view p s rule id me.0 at lane within new (with-word p s rule id me.0 at lane within new is-new), refl))
+    (λ is. (
+      me.0,
+      keeps,
+      tt,
+      with-view p s rule id me.0 at lane within new
+          (with-word p s rule id me.0 at lane within new is-new),
+      refl,
+    ))
     (λ not. (me.0, keeps, tt, same, refl))
   where
     Goal : ℕ → Type 0
     Goal k = (w : LaneView) × (a : Act (Option HandleOf)) × Valid s.homes me.1 a
         × IsOneLog p (stepped s (word_of lane) k id me.1 w a)
-        × Marks (step slots (word_of lane) old new none) me (slice_index s.words (word_of lane)) (w, carried_after me.1 a)
+        × Marks (step slots (word_of lane) old new none) me (slice_index s.words (word_of lane))
+        (w, carried_after me.1 a)
 
-    same : IsOneLog p (stepped s (word_of lane) (slice_index s.words (word_of lane)) id me.1 me.0 keeps)
+    same : IsOneLog p (stepped s (word_of lane)
+        (slice_index s.words (word_of lane)) id me.1 me.0 keeps)
     same = with-view p s rule id me.0 at lane within (slice_index s.words (word_of lane))
         (subst (λ ws. IsOneLog p (record { words = ws; homes = s.homes; views = s.views }))
         (sym (set-get_or s.words (word_of lane) 0)) rule)
@@ -484,10 +528,12 @@ mark_allowed p slots id me lane old new within is-new s rule homes at fits =
 -- The structure of the rule lasts, where a lane's handle comes home. What is left to say is what is
 -- known then: of the handles that are at home, and of the views.
 module _
-    (p : Plan) (s : LaneMoment) (rule : IsOneLog p s) (id : ℕ) (v w : LaneView) (lane : ℕ) (knew : List Event)
+    (p : Plan) (s : LaneMoment) (rule : IsOneLog p s) (id : ℕ) (v w : LaneView) (lane : ℕ)
+    (knew : List Event)
     (handle : HandleOf) (more : List (ℕ × Option HandleOf)) (at : get_elem? s.views id ≡ some v)
     (within : lane < p.seats) (guest : w.guest ≡ v.guest) (deals : w.dealer ≡ v.dealer)
-    (one-less : (i : ℕ) → times_out i v.outs ≡ times_out i (record { lane = lane; knew = knew } ∷ w.outs)) where
+    (one-less : (i : ℕ) → times_out i v.outs
+    ≡ times_out i (record { lane = lane; knew = knew } ∷ w.outs)) where
   after : LaneMoment
   after = stepped s (word_of lane) 0 id ((lane, Some handle) ∷ more) w gives
 
@@ -497,18 +543,21 @@ module _
   more-here : times_out lane v.outs ≡ 1 + times_out lane w.outs
   more-here = one-less lane ∙ times_here (record { lane = lane; knew = knew }) w.outs
 
-  back-here : get_elem? (slice_set s.homes lane (some (Some handle))) lane ≡ some (some (Some handle))
+  back-here : get_elem? (slice_set s.homes lane (some (Some handle))) lane
+      ≡ some (some (Some handle))
   back-here = set_here s.homes lane (some (Some handle)) (omega (arith, within, rule.count))
 
   back-words :
-      (i : ℕ) → i < p.seats → Same i lane → slice_index (slice_set s.words (word_of lane) 0) (word_of i) ≡ 0
+      (i : ℕ) → i < p.seats → Same i lane → slice_index (slice_set s.words (word_of lane) 0)
+      (word_of i) ≡ 0
       → absent (get_elem? (slice_set s.homes lane (some (Some handle))) i) ≡ 0
   back-words i below (inl (is, _)) home =
       ap (λ n. absent (get_elem? (slice_set s.homes lane (some (Some handle))) n)) is
       ∙ ap absent back-here
   back-words i below (inr (other, _)) home =
       ap absent (set_else s.homes lane i (some (Some handle)) other)
-      ∙ rule.words i below (sym (get_or-set_other s.words (word_of lane) (word_of i) 0 0 (apart i lane other)) ∙ home)
+      ∙ rule.words i below (sym (get_or-set_other s.words (word_of lane) (word_of i) 0 0
+      (apart i lane other)) ∙ home)
 
   back-once :
       (i : ℕ) → Same i lane
@@ -566,7 +615,8 @@ module _
       → u.guest ≡ Some i → u.seen ≡ seen i)
       → ((i : ℕ) → rule.dealt ≤ i → seen i ≡ [])
       → IsOneLog p (stepped s (word_of lane) 0 id ((lane, Some handle) ∷ more) w gives)
-  back-keeps m e current seen fits made one knows elsewhere mine-at away-at mine-knew away-knew goes mine-seen
+  back-keeps m e current seen fits made one knows elsewhere mine-at away-at mine-knew away-knew goes
+      mine-seen
       away-seen fresh =
       record {
         shared = m;
@@ -617,17 +667,21 @@ module _
               (handle, sym (some-injective (Some handle) y same), one, knows)
           by (inr (other, old)) = elsewhere i y other old
 
-      held : (id' : ℕ) (u : LaneView) → get_elem? (slice_set s.views id w) id' ≡ some u → u.outs ≢ []
+      held : (id' : ℕ) (u : LaneView) → get_elem? (slice_set s.views id w) id' ≡ some u
+          → u.outs ≢ []
           → IsOfMap m e u
       held id' u found some-lane = by (at_set s.views id id' w u found)
         where
-          by : ((id' ≡ id) × (w ≡ u)) ⊎ ((id' ≢ id) × (get_elem? s.views id' ≡ some u)) → IsOfMap m e u
+          by : ((id' ≡ id) × (w ≡ u)) ⊎ ((id' ≢ id) × (get_elem? s.views id' ≡ some u))
+              → IsOfMap m e u
           by (inl (_, is)) =
               subst (IsOfMap m e) is
-              (mine-at (λ none-left. some-lane (ap (λ (x : LaneView). x.outs) (sym is) ∙ none-left)))
+              (mine-at (λ none-left. some-lane
+              (ap (λ (x : LaneView). x.outs) (sym is) ∙ none-left)))
           by (inr (other, old)) = away-at id' u other old some-lane
 
-      knew-of : (id' : ℕ) (u : LaneView) (out : Out) → get_elem? (slice_set s.views id w) id' ≡ some u
+      knew-of : (id' : ℕ) (u : LaneView) (out : Out) → get_elem? (slice_set s.views id w) id'
+          ≡ some u
           → Has out u.outs → current out.lane ≡ out.knew
       knew-of id' u out found has = by (at_set s.views id id' w u found)
         where
@@ -705,7 +759,8 @@ module _
 
   elsewhere-mine : (out : Out) → Has out outs → out.lane ≢ lane
   elsewhere-mine out has is =
-      let again : 1 ≤ times_out lane outs = subst (λ n. 1 ≤ times_out n outs) is (has_times out outs has) in
+      let again : 1 ≤ times_out lane outs = subst (λ n. 1 ≤ times_out n outs) is
+      (has_times out outs has) in
       omega (arith, again, few, times_out-lane)
 
   elsewhere-away :
@@ -726,11 +781,18 @@ module _
       → ((i : ℕ) → rule.dealt ≤ i → seen i ≡ [])
       → (account : Account)
       → IsOneLog p
-      (stepped s (word_of lane) 0 id ((lane, Some handle) ∷ more) (given v outs w-seen account) gives)
+      (stepped s (word_of lane) 0 id ((lane, Some handle) ∷ more)
+      (given v outs w-seen account) gives)
   home-keeps w-seen seen goes mine away fresh account =
-      back-keeps p s rule id v (given v outs w-seen account) lane knew handle more at within refl refl
-      (λ i. ap (times_out i) view) rule.shared rule.epoch (with_current rule.current lane whole) seen
-      rule.fits rule.made (record { map = one.map ∙ is-at.map; number = one.number; alone = one.alone })
+      back-keeps p s rule id v
+      (given v outs w-seen account) lane knew handle more at within refl refl
+      (λ i. ap (times_out i) view) rule.shared rule.epoch
+      (with_current rule.current lane whole) seen
+      rule.fits rule.made (record {
+        map = one.map ∙ is-at.map;
+        number = one.number;
+        alone = one.alone;
+      })
       (subst (KnowsIn rule.epoch.filled rule.epoch.past handle.seat)
       (sym (with-here rule.current lane whole)) (record {
         later = knows.later;
@@ -757,13 +819,15 @@ module _
       (stepped s (word_of lane) 0 id ((lane, Some handle) ∷ more)
       (given v outs whole (gave handle v.account)) gives)
   give-keeps is-guest =
-      home-keeps whole (with_current rule.seen lane whole) goes mine away fresh (gave handle v.account)
+      home-keeps whole (with_current rule.seen lane whole) goes mine away fresh
+      (gave handle v.account)
     where
       dealt : lane < rule.dealt
       dealt = (rule.guests id v lane at is-guest).0
 
       goes : (i : ℕ) → i < p.seats
-          → IsCurrent i (with_current rule.seen lane whole i) (with_current rule.current lane whole i)
+          → IsCurrent i (with_current rule.seen lane whole i)
+          (with_current rule.current lane whole i)
       goes i below = by (decided i lane)
         where
           by : Same i lane
@@ -804,7 +868,8 @@ module _
   deal-keeps :
       IsCurrent lane knew whole
       → IsOneLog p
-      (stepped s (word_of lane) 0 id ((lane, Some handle) ∷ more) (given v outs v.seen v.account) gives)
+      (stepped s (word_of lane) 0 id ((lane, Some handle) ∷ more)
+      (given v outs v.seen v.account) gives)
   deal-keeps gone =
       home-keeps v.seen rule.seen goes (λ i is. (rule.guests id v i at is).1)
       (λ other u i differ at' is. (rule.guests other u i at' is).1) rule.fresh v.account
@@ -823,7 +888,8 @@ module _
               (subst (λ n. IsCurrent n (rule.current n) whole) (sym same)
               (subst (λ l. IsCurrent lane l whole) (sym was-current) gone)))
           by (inr (elsewhere, _)) =
-              subst (IsCurrent i (rule.seen i)) (sym (with-else rule.current lane i whole elsewhere))
+              subst (IsCurrent i (rule.seen i))
+              (sym (with-else rule.current lane i whole elsewhere))
               (rule.goes i below)
 
 -- ---- a handle of a new map comes home
@@ -833,7 +899,8 @@ some_time [] not = absurd (not refl)
 some_time (out ∷ outs) not = (out, inl refl)
 
 module _
-    (p : Plan) (s : LaneMoment) (rule : IsOneLog p s) (id : ℕ) (v : LaneView) (lane : ℕ) (knew : List Event)
+    (p : Plan) (s : LaneMoment) (rule : IsOneLog p s) (id : ℕ) (v : LaneView) (lane : ℕ)
+    (knew : List Event)
     (outs : List Out) (handle : HandleOf) (next : EpochIn) (more : List (ℕ × Option HandleOf))
     (at : get_elem? s.views id ≡ some v) (within : lane < p.seats)
     (view : v.outs ≡ record { lane = lane; knew = knew } ∷ outs)
@@ -842,7 +909,8 @@ module _
     (made : All (IsOfGuest p.seats) (log_of next.past))
     (knows : KnowsIn next.filled next.past handle.seat next.past)
     (all : (i : ℕ) → i < p.seats → 1 ≤ times_out i v.outs)
-    (met : (out : Out) → Has out v.outs → HasGoneOnBy out.lane (log_of out.knew) (log_of next.past) []) where
+    (met : (out : Out) → Has out v.outs → HasGoneOnBy out.lane (log_of out.knew)
+    (log_of next.past) []) where
   none-home : (i : ℕ) (y : Option HandleOf) → get_elem? s.homes i ≡ some (some y) → ⊥
   none-home i y old =
       let below : i < p.seats = omega (arith, at_within s.homes i (some y) old, rule.count) in
@@ -857,7 +925,11 @@ module _
       let again = has_times out u.outs has in
       let two = holders_two out.lane s.views id other v u differ at old in
       let below : out.lane < p.seats =
-      omega (arith, there s.homes out.lane (omega (arith, again, two, rule.once out.lane)), rule.count) in
+      omega (
+        arith,
+        there s.homes out.lane (omega (arith, again, two, rule.once out.lane)),
+        rule.count,
+      ) in
       omega (
         arith,
         two,
@@ -941,12 +1013,15 @@ known-of filled past seat whole knows =
     )
 
 pub give_allowed :
-    (p : Plan) (slots id : ℕ) (me : Me (Option HandleOf) LaneView) (lane : ℕ) (knew whole : List Event)
+    (p : Plan) (slots id : ℕ) (me : Me (Option HandleOf) LaneView) (lane : ℕ)
+    (knew whole : List Event)
     (handle : HandleOf) → lane < p.seats → Holds lane knew whole handle me
     → me.0.guest ≡ Some lane
-    → Allows (IsOneLog p) slots id me (word_of lane) (λ _. 0) (λ _. Gives (step slots (word_of lane) 0 0 none) me 0)
+    → Allows (IsOneLog p) slots id me (word_of lane) (λ _. 0)
+    (λ _. Gives (step slots (word_of lane) 0 0 none) me 0)
 give_allowed p slots id me lane knew whole handle within holds is-guest =
-    subst (λ (c : List (ℕ × Option HandleOf)). Allows (IsOneLog p) slots id (me.0, c) (word_of lane) (λ _. 0)
+    subst (λ (c : List (ℕ × Option HandleOf)). Allows (IsOneLog p) slots id (me.0, c) (word_of lane)
+    (λ _. 0)
     (λ _. Gives (step slots (word_of lane) 0 0 none) (me.0, c) 0)) (sym holds.slot)
     (λ s rule homes at fits. (
       given me.0 holds.outs (known_of me.0.filled me.0.past handle.seat) (gave handle me.0.account),
@@ -964,12 +1039,15 @@ give_allowed p slots id me lane knew whole handle within holds is-guest =
     ))
 
 pub deal_allowed :
-    (p : Plan) (slots id : ℕ) (me : Me (Option HandleOf) LaneView) (lane : ℕ) (knew whole : List Event)
+    (p : Plan) (slots id : ℕ) (me : Me (Option HandleOf) LaneView) (lane : ℕ)
+    (knew whole : List Event)
     (handle : HandleOf) → lane < p.seats → Holds lane knew whole handle me
     → IsCurrent lane knew whole
-    → Allows (IsOneLog p) slots id me (word_of lane) (λ _. 0) (λ _. Deals (step slots (word_of lane) 0 0 none) me 0)
+    → Allows (IsOneLog p) slots id me (word_of lane) (λ _. 0)
+    (λ _. Deals (step slots (word_of lane) 0 0 none) me 0)
 deal_allowed p slots id me lane knew whole handle within holds gone =
-    subst (λ (c : List (ℕ × Option HandleOf)). Allows (IsOneLog p) slots id (me.0, c) (word_of lane) (λ _. 0)
+    subst (λ (c : List (ℕ × Option HandleOf)). Allows (IsOneLog p) slots id (me.0, c) (word_of lane)
+    (λ _. 0)
     (λ _. Deals (step slots (word_of lane) 0 0 none) (me.0, c) 0)) (sym holds.slot)
     (λ s rule homes at fits. (
       given me.0 holds.outs me.0.seen me.0.account,
@@ -992,9 +1070,11 @@ anew-log next seat knows =
 pub anew_allowed :
     (p : Plan) (slots id : ℕ) (me : Me (Option HandleOf) LaneView) (lane : ℕ) (knew : List Event)
     (handle : HandleOf) (next : EpochIn) → lane < p.seats → HoldsAnew p lane knew handle next me
-    → Allows (IsOneLog p) slots id me (word_of lane) (λ _. 0) (λ _. Renews (step slots (word_of lane) 0 0 none) me 0)
+    → Allows (IsOneLog p) slots id me (word_of lane) (λ _. 0)
+    (λ _. Renews (step slots (word_of lane) 0 0 none) me 0)
 anew_allowed p slots id me lane knew handle next within holds =
-    subst (λ (c : List (ℕ × Option HandleOf)). Allows (IsOneLog p) slots id (me.0, c) (word_of lane) (λ _. 0)
+    subst (λ (c : List (ℕ × Option HandleOf)). Allows (IsOneLog p) slots id (me.0, c) (word_of lane)
+    (λ _. 0)
     (λ _. Renews (step slots (word_of lane) 0 0 none) (me.0, c) 0)) (sym holds.slot)
     (λ s rule homes at fits. (
       given_anew me.0 holds.outs handle.map next.filled next.past,
@@ -1014,7 +1094,8 @@ anew_allowed p slots id me lane knew handle next within holds =
 
 -- ---- at the start
 
-none_out : (handles : List HandleOf) (i : ℕ) → absent (get_elem? (map some (map Some handles)) i) ≡ 0
+none_out : (handles : List HandleOf) (i : ℕ) → absent (get_elem? (map some (map Some handles)) i)
+    ≡ 0
 none_out [] i = refl
 none_out (h ∷ hs) zero = refl
 none_out (h ∷ hs) (suc i) = none_out hs i
@@ -1028,7 +1109,8 @@ house_at (h ∷ hs) zero y at =
     (h, sym (some-injective (Some h) y (some-injective (some (Some h)) (some y) at)), refl)
 house_at (h ∷ hs) (suc i) y at = house_at hs i y at
 
-one_view : (v : LaneView) (id : ℕ) (u : LaneView) → get_elem? (v ∷ []) id ≡ some u → (id ≡ 0) × (v ≡ u)
+one_view : (v : LaneView) (id : ℕ) (u : LaneView) → get_elem? (v ∷ []) id ≡ some u → (id ≡ 0)
+    × (v ≡ u)
 one_view v zero u at = (refl, some-injective v u at)
 one_view v (suc id) u at = absurd (some-ne-none u (sym at))
 
@@ -1040,7 +1122,8 @@ pub opens :
     → IsOneLog p (opening words slots (first_lane_view p))
 opens p m handles slots words fits count each is zeros =
     subst (λ xs. IsOneLog p (opening words xs (first_lane_view p))) (sym is)
-    (subst (λ ws. IsOneLog p (opening ws (map Some handles) (first_lane_view p))) (sym zeros) (record {
+    (subst (λ ws. IsOneLog p (opening ws (map Some handles) (first_lane_view p))) (sym zeros)
+    (record {
       shared = m;
       epoch = record { filled = []; past = []; replayed = tt; same = refl };
       current = λ _. [];
@@ -1066,14 +1149,16 @@ opens p m handles slots words fits count each is zeros =
           ap (λ (u : LaneView). u.guest) (one_view (first_lane_view p) id v at).1 ∙ is-guest in
           absurd cc;
       one_guest = λ id other v u i at at' is-guest is-guest'.
-          (one_view (first_lane_view p) id v at).0 ∙ sym (one_view (first_lane_view p) other u at').0;
+          (one_view (first_lane_view p) id v at).0
+          ∙ sym (one_view (first_lane_view p) other u at').0;
       fresh = λ i past. refl;
       few = omega arith;
       dealer = λ id v d at deals.
           some-is d 0 (sym deals ∙ sym (ap (λ (u : LaneView). u.dealer)
           (one_view (first_lane_view p) id v at).1));
       one_dealer = λ id other v u d d' at at' deals deals'.
-          (one_view (first_lane_view p) id v at).0 ∙ sym (one_view (first_lane_view p) other u at').0;
+          (one_view (first_lane_view p) id v at).0
+          ∙ sym (one_view (first_lane_view p) other u at').0;
     }))
 
 -- ---- another token
@@ -1109,7 +1194,8 @@ module _
       × ((x.map ≡ u.map) × (x.filled ≡ u.filled) × (x.past ≡ u.past))
       × (((other ≡ id) × (u.dealer ≡ Some (suc d))) ⊎ ((other ≢ id) × (x.dealer ≡ u.dealer))))
       ⊎ ((other ≡ length s.views) × (new_guest v ≡ u))
-  was-view other u found = by (at_end (slice_set s.views id (dealer_left v)) (new_guest v) u other found)
+  was-view other u found = by (at_end (slice_set s.views id (dealer_left v))
+      (new_guest v) u other found)
     where
       at_end :
           (views : List LaneView) (w u : LaneView) (i : ℕ) → get_elem? (views ++ w ∷ []) i ≡ some u
@@ -1130,7 +1216,8 @@ module _
           × ((x.map ≡ u.map) × (x.filled ≡ u.filled) × (x.past ≡ u.past))
           × (((other ≡ id) × (u.dealer ≡ Some (suc d))) ⊎ ((other ≢ id) × (x.dealer ≡ u.dealer)))
 
-      old : ((other ≡ id) × (dealer_left v ≡ u)) ⊎ ((other ≢ id) × (get_elem? s.views other ≡ some u))
+      old : ((other ≡ id) × (dealer_left v ≡ u))
+          ⊎ ((other ≢ id) × (get_elem? s.views other ≡ some u))
           → Old
       old (inl (here, is)) = (
         v,
@@ -1138,7 +1225,11 @@ module _
         ap (λ (x : LaneView). x.guest) is,
         ap (λ (x : LaneView). x.seen) is,
         ap (λ (x : LaneView). x.outs) is,
-        (ap (λ (x : LaneView). x.map) is, ap (λ (x : LaneView). x.filled) is, ap (λ (x : LaneView). x.past) is),
+        (
+          ap (λ (x : LaneView). x.map) is,
+          ap (λ (x : LaneView). x.filled) is,
+          ap (λ (x : LaneView). x.past) is,
+        ),
         inl (here, sym (ap (λ (x : LaneView). x.dealer) is) ∙ ap next_dealer deals),
       )
       old (inr (differ, is)) = (u, is, refl, refl, refl, (refl, refl, refl), inr (differ, refl))
@@ -1150,7 +1241,11 @@ module _
       by (inr (last, is)) = inr (last ∙ length-set s.views id (dealer_left v), is)
 
   fork-keeps :
-      IsOneLog p (record { words = s.words; homes = s.homes; views = slice_set s.views id (dealer_left v) ++ new_guest v ∷ [] })
+      IsOneLog p (record {
+        words = s.words;
+        homes = s.homes;
+        views = slice_set s.views id (dealer_left v) ++ new_guest v ∷ [];
+      })
   fork-keeps = record {
     shared = rule.shared;
     epoch = rule.epoch;
@@ -1216,7 +1311,8 @@ module _
           ]
 
       -- a former guest is below the new one
-      below : (other : ℕ) (x : LaneView) (i : ℕ) → get_elem? s.views other ≡ some x → x.guest ≡ Some i
+      below : (other : ℕ) (x : LaneView) (i : ℕ) → get_elem? s.views other ≡ some x → x.guest
+          ≡ Some i
           → i < d
       below other x i found is-guest =
           let was = (rule.guests other x i found is-guest).0 in omega (arith, was, d-is)
@@ -1232,7 +1328,8 @@ module _
       one-guest one other u w i found found' is-guest is-guest' =
           elim (was-view one u found) [
             | inl x ↦ elim (was-view other w found') [
-              | inl y ↦ rule.one_guest one other x.0 y.0 i x.1 y.1 (x.2 ∙ is-guest) (y.2 ∙ is-guest')
+              | inl y ↦ rule.one_guest one other x.0 y.0 i x.1 y.1 (x.2 ∙ is-guest)
+                  (y.2 ∙ is-guest')
               | inr new ↦
                   let less = below one x.0 i x.1 (x.2 ∙ is-guest) in
                   let is = new-is w i new.1 is-guest' in
@@ -1254,7 +1351,8 @@ module _
           elim (was-view other u found) [
             | inl x ↦ elim x.6 [
               | inl here ↦ (here.0, some-is e (suc d) (sym deals' ∙ here.1))
-              | inr away ↦ absurd (away.0 (rule.one_dealer other id x.0 v e d x.1 at (away.1 ∙ deals') deals))
+              | inr away ↦ absurd (away.0 (rule.one_dealer other id x.0 v e d x.1 at
+                  (away.1 ∙ deals') deals))
             ]
             | inr new ↦
                 let none-is : ◌≡◌ {A = Option ℕ} None (Some e) =

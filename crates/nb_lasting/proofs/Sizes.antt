@@ -32,7 +32,8 @@ has-slots p keys most is room = of (cases_lt MOST_KEYS (max keys 20))
     of : (MOST_KEYS < max keys 20) ⊎ (max keys 20 ≤ MOST_KEYS) → HasSlots keys p
     of (inl many) =
         let greatest-keys : most ≡ MOST_KEYS = omega (arith, many, is) in
-        inr (greatest (get_or p.exponents (generations_of p - 1) 0) (omega (arith, room, greatest-keys)))
+        inr (greatest (get_or p.exponents (generations_of p - 1) 0)
+        (omega (arith, room, greatest-keys)))
     of (inr few) =
         let enough : most ≡ max keys 20 = omega (arith, few, is) in
         inl (omega (arith, room, enough))

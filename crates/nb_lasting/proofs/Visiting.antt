@@ -31,7 +31,8 @@ none-called guest replayed = record {
 
 -- calls through its lane
 pub called_through :
-    (before after : GuestOf) (old new : LaneView) (made : List (Call × Reply)) → after.of ≡ before.of
+    (before after : GuestOf) (old new : LaneView) (made : List (Call × Reply)) → after.of
+    ≡ before.of
     → after.number ≡ before.number → before.log ≡ log_of old.seen → after.log ≡ log_of new.seen
     → HasCalledIn before.number old new made → GuestHasCalled before after made
 called_through before after old new made of number is-old is-new called = record {
@@ -55,7 +56,8 @@ written-through call before after old new (Err fault) of number is-old is-new ca
 
 -- what a write with all handles came to
 pub tried-through :
-    (call : Call) (before after : GuestOf) (old new : LaneView) (result : Result (Option Reply) WriteFault)
+    (call : Call) (before after : GuestOf) (old new : LaneView)
+    (result : Result (Option Reply) WriteFault)
     → after.of ≡ before.of → after.number ≡ before.number → before.log ≡ log_of old.seen
     → after.log ≡ log_of new.seen → HasTriedIn before.number old new call result
     → GuestHasTried call before after result
@@ -78,7 +80,8 @@ goes-on-to first middle whole made later one two =
     (subst (λ k. HasGoneOnBy k middle.log whole later) one.number two)
 
 pub then-called :
-    (first middle last : GuestOf) (made later : List (Call × Reply)) → GuestHasCalled first middle made
+    (first middle last : GuestOf) (made later : List (Call × Reply))
+    → GuestHasCalled first middle made
     → GuestHasCalled middle last later → GuestHasCalled first last (later ++ made)
 then-called first middle last made later one two = record {
   of = two.of ∙ one.of;
@@ -91,11 +94,13 @@ pub then-first :
     (first middle last : GuestOf) (made : List (Call × Reply)) → GuestHasCalled first middle []
     → GuestHasCalled middle last made → GuestHasCalled first last made
 then-first first middle last made one two =
-    subst (GuestHasCalled first last) (append-nil made) (then-called first middle last [] made one two)
+    subst (GuestHasCalled first last) (append-nil made)
+    (then-called first middle last [] made one two)
 
 -- what a write came to after that
 pub then-refused :
-    (call : Call) (first middle last : GuestOf) (fault : WriteFault) → GuestHasCalled first middle []
+    (call : Call) (first middle last : GuestOf) (fault : WriteFault)
+    → GuestHasCalled first middle []
     → GuestIsRefused call middle last fault → GuestIsRefused call first last fault
 then-refused call first middle last fault one two =
     record { unmade = then-first first middle last [] one two.unmade; why = two.why }
@@ -139,7 +144,8 @@ pub one_log_of_guests : OneLogOfGuests
 one_log_of_guests = λ n shared new last ended made come called end.
     one n shared new last ended made come called end
   where
-    one : (n : ℕ) (shared : SharedOf) (new last : List GuestOf) (ended : EndedOf) (made : ℕ → List (Call × Reply))
+    one : (n : ℕ) (shared : SharedOf) (new last : List GuestOf) (ended : EndedOf)
+        (made : ℕ → List (Call × Reply))
         → HaveCome n shared new → HaveCalled n new last made → HaveEnded last ended
         → IsOneLogOf n made (map_left ended)
     one n shared new last ended made come called end = (

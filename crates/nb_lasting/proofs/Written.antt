@@ -41,7 +41,8 @@ same-in : {X : Type 0} (x y : X) → ◌≡◌ {A = Option X} (Some x) (Some y) 
 same-in x y is = ap (λ o. unwrap_or o x) is
 
 pub set-cases :
-    {X : Type 0} (xs : List X) (n : ℕ) (y : X) (i : ℕ) (x : X) → slice_get (slice_set xs n y) i ≡ Some x
+    {X : Type 0} (xs : List X) (n : ℕ) (y : X) (i : ℕ) (x : X) → slice_get (slice_set xs n y) i
+    ≡ Some x
     → ((i ≡ n) × (y ≡ x)) ⊎ ((i ≢ n) × (slice_get xs i ≡ Some x))
 set-cases [] n y i x at = absurd (omega (arith, slice_get_within [] i x at))
 set-cases (z ∷ xs) zero y zero x at = inl (refl, same-in y x at)
@@ -87,21 +88,27 @@ module _
       × ((lane : ℕ) (old new : LaneView) → HasCalledIn lane old new (made_in call result)
       → map_of_log (log_of new.seen) ≡ map_of_log (log wrote.new.seat)
       → HasWrittenIn lane old new call result)
-  logged = write-logged wrote.old.map call wrote.old.seat wrote.new.seat wrote.limit result wrote.wrote
+  logged = write-logged wrote.old.map call wrote.old.seat wrote.new.seat wrote.limit result
+      wrote.wrote
 
-  old-lane : IsLane me.0.map own wrote.old × KnowsIn me.0.filled me.0.past wrote.old.seat (holds.knew own)
+  old-lane : IsLane me.0.map own wrote.old × KnowsIn me.0.filled me.0.past wrote.old.seat
+      (holds.knew own)
   old-lane = holds.held.each own wrote.old wrote.was
 
   goes :
       KnowsIn me.0.filled me.0.past wrote.new.seat (known_of me.0.filled me.0.past wrote.new.seat)
-      × HasGoneOnBy own (log_of (holds.knew own)) (log_of (known_of me.0.filled me.0.past wrote.new.seat))
+      × HasGoneOnBy own (log_of (holds.knew own))
+      (log_of (known_of me.0.filled me.0.past wrote.new.seat))
       (made_in call result)
   goes =
       let begun = holds.begun (omega (arith, some)) in
-      subst (λ k. KnowsIn me.0.filled me.0.past wrote.new.seat (known_of me.0.filled me.0.past wrote.new.seat)
-      × HasGoneOnBy k (log_of (holds.knew own)) (log_of (known_of me.0.filled me.0.past wrote.new.seat))
+      subst (λ k. KnowsIn me.0.filled me.0.past wrote.new.seat
+      (known_of me.0.filled me.0.past wrote.new.seat)
+      × HasGoneOnBy k (log_of (holds.knew own))
+      (log_of (known_of me.0.filled me.0.past wrote.new.seat))
       (made_in call result)) old-lane.0.number
-      (subst (λ (f : List Event). KnowsIn f me.0.past wrote.new.seat (known_of f me.0.past wrote.new.seat)
+      (subst (λ (f : List Event). KnowsIn f me.0.past wrote.new.seat
+      (known_of f me.0.past wrote.new.seat)
       × HasGoneOnBy wrote.old.seat.chain.number (log_of (holds.knew own))
       (log_of (known_of f me.0.past wrote.new.seat)) (made_in call result)) (sym begun.0)
       (subst (λ (l : List Event). KnowsIn holds.epoch.filled l wrote.new.seat
@@ -109,13 +116,15 @@ module _
       × HasGoneOnBy wrote.old.seat.chain.number (log_of (holds.knew own))
       (log_of (known_of holds.epoch.filled l wrote.new.seat)) (made_in call result)) (sym begun.1)
       (known-then holds.epoch wrote.old.seat wrote.new.seat (holds.knew own) (made_in call result)
-      (subst (λ (f : List Event). KnowsIn f holds.epoch.past wrote.old.seat (holds.knew own)) begun.0
+      (subst (λ (f : List Event). KnowsIn f holds.epoch.past wrote.old.seat
+      (holds.knew own)) begun.0
       (subst (λ (l : List Event). KnowsIn me.0.filled l wrote.old.seat (holds.knew own)) begun.1
       old-lane.1)) logged.0)))
 
   -- it leaves the map that its seat's log leaves
   leaves-map :
-      map_of_log (log_of (known_of me.0.filled me.0.past wrote.new.seat)) ≡ map_of_log (log wrote.new.seat)
+      map_of_log (log_of (known_of me.0.filled me.0.past wrote.new.seat))
+      ≡ map_of_log (log wrote.new.seat)
   leaves-map =
       let begun = holds.begun (omega (arith, some)) in
       seen-map holds.epoch wrote.new.seat (known_of me.0.filled me.0.past wrote.new.seat)
@@ -147,17 +156,20 @@ module _
               alone = wrote.rest.reserve ∙ old-lane.0.alone;
             },
             subst (KnowsIn me.0.filled me.0.past wrote.new.seat)
-                (sym (with-here holds.knew own (known_of me.0.filled me.0.past wrote.new.seat))) goes.0,
+                (sym (with-here holds.knew own
+                (known_of me.0.filled me.0.past wrote.new.seat))) goes.0,
           ))
       by i h (inr (other, old)) =
           let each = holds.held.each i h old in (
             each.0,
             subst (KnowsIn me.0.filled me.0.past h.seat)
-                (sym (with-else holds.knew own i (known_of me.0.filled me.0.past wrote.new.seat) other))
+                (sym (with-else holds.knew own i
+                (known_of me.0.filled me.0.past wrote.new.seat) other))
                 each.1,
           )
 
-  stays-so : (i : ℕ) → i < n → i ≢ own → HasGoneOnBy i (log_of (holds.knew i)) (log_of (know-then i)) []
+  stays-so : (i : ℕ) → i < n → i ≢ own → HasGoneOnBy i (log_of (holds.knew i))
+      (log_of (know-then i)) []
   stays-so i less other =
       let one = there_is before i (omega (arith, less, holds.held.count)) in
       subst (λ (l : List Event). HasGoneOnBy i (log_of (holds.knew i)) (log_of l) [])
@@ -171,9 +183,11 @@ module _
 
   -- all go home
   pub wrote-home :
-      CanComeHome own (log_of (known_of me.0.filled me.0.past wrote.new.seat)) (length after) me after
+      CanComeHome own (log_of (known_of me.0.filled me.0.past wrote.new.seat))
+      (length after) me after
   wrote-home =
-      subst (λ k. CanComeHome own (log_of (known_of me.0.filled me.0.past wrote.new.seat)) k me after)
+      subst (λ k. CanComeHome own
+      (log_of (known_of me.0.filled me.0.past wrote.new.seat)) k me after)
       (sym held-then.count) (record {
         knew = holds.knew;
         know = know-then;
@@ -186,7 +200,8 @@ module _
             (sym (with-else holds.knew own i (known_of me.0.filled me.0.past wrote.new.seat) other))
             (current_here i (holds.knew i) (holds.held.each i one.0 one.1).1.replayed);
         guest = guest;
-        due = λ _. ap log_of (with-here holds.knew own (known_of me.0.filled me.0.past wrote.new.seat));
+        due = λ _. ap log_of (with-here holds.knew own
+            (known_of me.0.filled me.0.past wrote.new.seat));
         seen = λ more. absurd (omega (arith, more, below));
       })
 
@@ -238,7 +253,8 @@ module _
           (subst (λ (l : List Event). HasGoneOnBy own (log_of (holds.knew own)) (log_of l) [])
           (sym (with-here holds.knew own (known_of me.0.filled me.0.past wrote.new.seat)))
           (subst (HasGoneOnBy own (log_of (holds.knew own))
-          (log_of (known_of me.0.filled me.0.past wrote.new.seat))) (ap (made_in call) full) goes.1))
+          (log_of (known_of me.0.filled me.0.past wrote.new.seat)))
+          (ap (made_in call) full) goes.1))
       by i less (inr (other, _)) = stays-so i less other
 
   -- and found all slots of the last table taken
@@ -252,7 +268,8 @@ module _
         (
           wrote.new,
           ap (λ xs. slice_get xs own) wrote.is ∙ set-at before own wrote.new wrote.old wrote.was,
-          subst (λ (m : MapOf). IsCrowded m.chain.shape wrote.new.seat.chain.seen (key_of_call call))
+          subst (λ (m : MapOf). IsCrowded m.chain.shape wrote.new.seat.chain.seen
+              (key_of_call call))
               (sym wrote.rest.map) just.1,
         ),
       )

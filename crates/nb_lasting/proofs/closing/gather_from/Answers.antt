@@ -17,7 +17,8 @@ exchange-requires g c = (
 
 pub returns-clause-gathered : goal.returns-clause-gathered
 returns-clause-gathered g c holds =
-    subst (λ xs. HasGathered c.args.lane c.args.guest.me.0.seen holds.knew c.exchange.new.seat.me xs)
+    subst (λ xs. HasGathered c.args.lane c.args.guest.me.0.seen holds.knew c.exchange.new.seat.me
+    xs)
     (sym c.push_reserved.ensures.items)
     (gathered-from c.args.lane c.args.token.now.me c.become_guest.new.token.me c.hold.new.token.me
     c.exchange.new.seat.me c.args.guest.me c.args.handles.now.items c.in-Some.handle

@@ -26,7 +26,8 @@ pub gather_from-requires-clause-guest : goal.gather_from-requires-clause-guest
 gather_from-requires-clause-guest g c =
     subst (λ n. IsIdleGuest n c.into_token.result.me)
     (next-number c.args.guests.items (into_iter_items c.loop-guest.guest-iterator)
-    (into_iter_items c.next.new.self) c.in-Some.guest c.loop-guest.token.me c.loop-guest.handles.items
+    (into_iter_items c.next.new.self) c.in-Some.guest c.loop-guest.token.me
+    c.loop-guest.handles.items
     c.loop-guest.invariant.5 c.in-Some.ensures.steps.0 c.requires.all.numbered
     ∙ (let here : length c.loop-guest.handles.items ≡ c.len-lane.result =
     omega (arith, c.len-lane.ensures, c.loop-guest.handles.ok) in here)) c.into_token.ensures.idle
@@ -34,7 +35,8 @@ gather_from-requires-clause-guest g c =
 pub loop-guest-preserved : goal.loop-guest-preserved
 loop-guest-preserved g c =
     let number = next-number c.args.guests.items (into_iter_items c.loop-guest.guest-iterator)
-    (into_iter_items c.next.new.self) c.in-Some.guest c.loop-guest.token.me c.loop-guest.handles.items
+    (into_iter_items c.next.new.self) c.in-Some.guest c.loop-guest.token.me
+    c.loop-guest.handles.items
     c.loop-guest.invariant.5 c.in-Some.ensures.steps.0 c.requires.all.numbered in
     let here : c.len-lane.result ≡ length c.loop-guest.handles.items =
     omega (arith, c.len-lane.ensures, c.loop-guest.handles.ok) in (

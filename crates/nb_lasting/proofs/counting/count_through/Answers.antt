@@ -13,7 +13,8 @@ counted-handles-requires g c =
     record {
       single = still-single c.slot_count-seats.result c.gather_all.new.token.me
           c.in_ok-handles.handles.items some few
-          (held-still c.slot_count-seats.result c.gather_all.new.token.me c.in_ok-handles.handles.items
+          (held-still c.slot_count-seats.result c.gather_all.new.token.me
+          c.in_ok-handles.handles.items
           c.in_ok-handles.ensures.holds);
     }
 
@@ -70,7 +71,8 @@ returns-in-Ok-clause-size g c =
     let below : c.args.lane < c.slot_count-seats.result =
     omega (arith, c.slot_count-seats.ensures, c.args.hall.now.slots, c.requires.lane) in
     size-home n me before after some few holds c.counted-handles.result.1 c.counted-handles.ensures
-    c.in-Ok.size c.in-Ok.is c.args.lane (c.gather_all.ensures.guest.guest ∙ c.requires.idle.guest) below
+    c.in-Ok.size c.in-Ok.is c.args.lane (c.gather_all.ensures.guest.guest
+    ∙ c.requires.idle.guest) below
     c.all_home.new.token.me.0 c.all_home.ensures.seen
 
 pub returns-in-Err-clause-called : goal.returns-in-Err-clause-called

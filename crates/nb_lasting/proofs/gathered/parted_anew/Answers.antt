@@ -11,5 +11,6 @@ settle-requires g c = record {
       c.renew-renewed.ensures.kept)
       (ap length c.joined-whole.ensures.seats ∙ length-each c.args.handles.items
       ∙ c.requires.all c.requires.single
-      ∙ ap (λ (m : MapOf). m.chain.shape.seats) (sym (c.joined-whole.ensures.map c.requires.single)));
+      ∙ ap (λ (m : MapOf). m.chain.shape.seats)
+      (sym (c.joined-whole.ensures.map c.requires.single)));
 }

@@ -32,7 +32,8 @@ loop-done-preserved c =
     (can : CanComeHome c.args.own whole (length c.args.handles.items) c.args.token.now.me
     c.args.handles.items).
     c.come_home.ensures.holds whole
-    (subst (λ k. CanComeHome c.args.own whole k c.loop-done.token.me c.loop-done.handles.items) (sym n)
+    (subst (λ k. CanComeHome c.args.own whole k c.loop-done.token.me c.loop-done.handles.items)
+    (sym n)
     (c.loop-done.invariant.holds whole can)) in
     let left = (step c.requires.holds.0 c.requires.holds.1).held.count in
     record {

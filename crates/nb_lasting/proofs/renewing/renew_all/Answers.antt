@@ -8,7 +8,8 @@ parted_anew-handles-requires g c =
     let seats = c.requires.shape in
     record {
       single = still-single c.args.shape.seats c.args.token.now.me c.args.handles.items
-          (subst (λ n. 1 ≤ n) (sym seats) c.args.hall.now.some) (subst (λ n. n ≤ 256) (sym seats) c.args.hall.now.few)
+          (subst (λ n. 1 ≤ n) (sym seats) c.args.hall.now.some)
+          (subst (λ n. n ≤ 256) (sym seats) c.args.hall.now.few)
           c.requires.holds;
       all = all-of-map c.args.shape.seats c.args.token.now.me c.args.handles.items
           (subst (λ n. 1 ≤ n) (sym seats) c.args.hall.now.some) c.requires.seated c.requires.holds;

@@ -9,7 +9,8 @@ use Rattle.nb_lasting.proofs.renewing.renew_counted.Goals as goal
 
 pub counted-handles-requires : goal.counted-handles-requires
 counted-handles-requires g c = record {
-  single = still-single c.args.hall.now.table.shared.key.seats c.args.token.now.me c.args.handles.items
+  single = still-single c.args.hall.now.table.shared.key.seats c.args.token.now.me
+      c.args.handles.items
       c.args.hall.now.some c.args.hall.now.few c.requires.holds;
 }
 
@@ -40,7 +41,8 @@ all_home-requires-clause-holds g c =
     let is = c.counted-handles.ensures in
     let still = (still-by n me before after some few holds result is).0 in (
       log_of (still.know c.args.own),
-      can-come-home n me before after some few holds still c.args.own c.requires.guest c.requires.own,
+      can-come-home n me before after some few holds still c.args.own c.requires.guest
+          c.requires.own,
     )
 
 pub returns-then-size-ge-GREATEST-clause-called : goal.returns-then-size-ge-GREATEST-clause-called
@@ -55,7 +57,8 @@ returns-then-size-ge-GREATEST-clause-called g c =
     let result = c.counted-handles.result.1 in
     let is = c.counted-handles.ensures in
     let still = (still-by n me before after some few holds result is).0 in
-    called-home n me before after some few holds still c.args.own c.requires.guest c.requires.own me.0
+    called-home n me before after some few holds still c.args.own c.requires.guest c.requires.own
+    me.0
     refl c.all_home.new.token.me.0 c.all_home.ensures.seen
 
 pub returns-then-size-ge-GREATEST-clause-full : goal.returns-then-size-ge-GREATEST-clause-full
@@ -131,7 +134,8 @@ returns-in-Ok-renew_all-clause-anew g c =
 
 pub returns-in-Ok-renew_all-clause-called : goal.returns-in-Ok-renew_all-clause-called
 returns-in-Ok-renew_all-clause-called g c =
-    nothing-seen c.args.own c.args.token.now.me.0 c.renew_all.new.token.me.0 c.renew_all.ensures.guest.seen
+    nothing-seen c.args.own c.args.token.now.me.0 c.renew_all.new.token.me.0
+    c.renew_all.ensures.guest.seen
     c.requires.replayed
 
 pub returns-in-Err : goal.returns-in-Err

@@ -32,8 +32,16 @@ lend-requires-clause-lane g c =
     let guest = slice_index_or c.loop-i.guests i c.index-guests-i.result in
     let at : slice_get c.args.guests.now i ≡ Some guest =
     ap (λ l. slice_get l i) (sym c.loop-i.invariant.same)
-    ∙ slice_get-get_or c.loop-i.guests i c.index-guests-i.result (omega (arith, c.loop-i-test.true, ap length c.loop-i.invariant.same)) in
-    omega (arith, c.requires.all.numbered i guest at, c.loop-i-test.true, c.requires.all.count, ap length c.loop-i.invariant.same)
+    ∙ slice_get-get_or c.loop-i.guests i c.index-guests-i.result
+    (omega (arith, c.loop-i-test.true, ap length c.loop-i.invariant.same)) in
+    omega (
+      arith,
+      c.requires.all.numbered i guest at,
+      c.loop-i-test.true,
+      c.requires.all.count,
+      ap
+          length c.loop-i.invariant.same,
+    )
 
 pub lend-requires-clause-holds : goal.lend-requires-clause-holds
 lend-requires-clause-holds g c =
@@ -41,7 +49,8 @@ lend-requires-clause-holds g c =
     let guest = slice_index_or c.loop-i.guests i c.index-guests-i.result in
     let at : slice_get c.args.guests.now i ≡ Some guest =
     ap (λ l. slice_get l i) (sym c.loop-i.invariant.same)
-    ∙ slice_get-get_or c.loop-i.guests i c.index-guests-i.result (omega (arith, c.loop-i-test.true, ap length c.loop-i.invariant.same)) in
+    ∙ slice_get-get_or c.loop-i.guests i c.index-guests-i.result
+    (omega (arith, c.loop-i-test.true, ap length c.loop-i.invariant.same)) in
     subst (λ n. HoldsBelow n c.loop-i.token.me c.loop-i.handles.items)
     (sym c.loop-i.invariant.come.count ∙ c.loop-i.invariant.count
     ∙ sym (c.requires.all.numbered i guest at))
@@ -53,10 +62,12 @@ loop-i-preserved g c =
     let guest = slice_index_or c.loop-i.guests i c.index-guests-i.result in
     let at : slice_get c.args.guests.now i ≡ Some guest =
     ap (λ l. slice_get l i) (sym c.loop-i.invariant.same)
-    ∙ slice_get-get_or c.loop-i.guests i c.index-guests-i.result (omega (arith, c.loop-i-test.true, ap length c.loop-i.invariant.same)) in
+    ∙ slice_get-get_or c.loop-i.guests i c.index-guests-i.result
+    (omega (arith, c.loop-i-test.true, ap length c.loop-i.invariant.same)) in
     let number = c.requires.all.numbered i guest at in
     let come = lent-more c.args.guests.now i guest c.loop-i.token.me c.lend.new.token.me
-    c.loop-i.handles.items c.lend.new.handles.items c.loop-i.invariant.come c.loop-i.invariant.count at
+    c.loop-i.handles.items c.lend.new.handles.items c.loop-i.invariant.come c.loop-i.invariant.count
+    at
     number c.lend.ensures.lent in
     record {
       table = c.lend.ensures.table ∙ c.loop-i.invariant.table;

@@ -83,15 +83,19 @@ loop-done-preserved c =
       table = c.settle.ensures.table ∙ c.loop-done.invariant.table;
       count = omega (arith, left, number, more, c.loop-done.invariant.count);
       settled = λ (whole : List Entry)
-          (can : CanSettle whole (length c.args.guests.now) c.args.token.now.me c.args.handles.items).
+          (can : CanSettle whole
+          (length c.args.guests.now) c.args.token.now.me c.args.handles.items).
           let was = c.loop-done.invariant.settled whole can in
           let now = c.settle.ensures.settled whole
-          (subst (λ m. CanSettle whole m c.loop-done.token.me c.loop-done.handles.items) here was.0) in (
-            subst (λ m. CanSettle whole m c.settle.new.token.me c.settle.new.handles.items) (sym left)
+          (subst (λ m. CanSettle whole m c.loop-done.token.me c.loop-done.handles.items) here was.0)
+          in (
+            subst (λ m. CanSettle whole m c.settle.new.token.me c.settle.new.handles.items)
+                (sym left)
                 now.0,
             subst (λ m. KnowFrom m whole c.args.guests.now
                 (slice_set c.loop-done.guests k c.settle.new.self)) (sym (left ∙ number))
-                (know-more n k whole c.args.guests.now c.loop-done.guests guest c.settle.new.self more
+                (know-more n k whole c.args.guests.now c.loop-done.guests guest c.settle.new.self
+                more
                 was.1 at now.1),
           );
     }

@@ -36,7 +36,8 @@ settle_all-requires-clause-can g c =
     (AreCountedIn me.0.map known.0.know before after) c.in-Ok.is known.1 in (
       settled-log n me before after c.in-Ok.size some holds known.0 counts,
       subst (λ (gs : List GuestOf). CanSettle
-          (settled-log n me before after c.in-Ok.size some holds known.0 counts) (length gs) me after)
+          (settled-log n me before after c.in-Ok.size some holds known.0 counts)
+          (length gs) me after)
           (sym c.in_ok-handles.ensures.same)
           (can-settle n me before after c.in-Ok.size some holds known.0 counts),
     )
@@ -82,4 +83,5 @@ returns-in-Ok-clause-settled g c =
       subst (λ (knew : ℕ → List Event). GoesOnTo guest (log_of (knew i)) [])
           (sym (held-knew n me before have.holds)) was.1,
     ))
-    (c.settle_all.ensures.settled whole can ∙ ap (map (with_log whole)) c.in_ok-handles.ensures.same)
+    (c.settle_all.ensures.settled whole can
+    ∙ ap (map (with_log whole)) c.in_ok-handles.ensures.same)

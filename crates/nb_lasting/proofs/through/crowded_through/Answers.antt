@@ -21,14 +21,16 @@ give-requires-clause-holds g c =
     can-give c.args.lane c.args.token.now.me c.hold.new.token.me c.hold.ensures.taken
     c.occupancy.new.self [] c.requires.idle
     (subst (λ h. KeepsRest h c.occupancy.new.self) (sym same) c.occupancy.ensures.rest)
-    (subst (λ h. HasLogged h.seat c.occupancy.new.self.seat []) (sym same) c.occupancy.ensures.looked.logged) _ refl
+    (subst (λ h. HasLogged h.seat c.occupancy.new.self.seat [])
+    (sym same) c.occupancy.ensures.looked.logged) _ refl
 
 pub returns : goal.returns
 returns g c =
     let same = taken-is c.args.lane c.args.token.now.me c.hold.new.token.me c.hold.ensures.taken
     c.slot_mut.result.now c.in-Some.handle c.slot_mut.ensures.value c.in-Some.is in
     let keeps = subst (λ h. KeepsRest h c.occupancy.new.self) (sym same) c.occupancy.ensures.rest in
-    let logged = subst (λ h. HasLogged h.seat c.occupancy.new.self.seat []) (sym same) c.occupancy.ensures.looked.logged in
+    let logged = subst (λ h. HasLogged h.seat c.occupancy.new.self.seat [])
+    (sym same) c.occupancy.ensures.looked.logged in
     record {
       table = c.give.ensures.table ∙ c.hold.ensures.table;
       idle = idle-again c.args.lane c.args.token.now.me c.hold.new.token.me c.hold.ensures.taken

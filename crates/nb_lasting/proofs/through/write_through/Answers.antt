@@ -26,7 +26,8 @@ give-requires-clause-holds g c =
     (Write c.args.key c.args.want.now c.args.change.now) c.in-Some.handle.seat
     c.put_if_match-reply.new.self.seat _ c.put_if_match-reply.result
     c.put_if_match-reply.ensures.wrote in
-    let made = made_in (Write c.args.key c.args.want.now c.args.change.now) c.put_if_match-reply.result in
+    let made = made_in (Write c.args.key c.args.want.now c.args.change.now)
+    c.put_if_match-reply.result in
     can-give c.args.lane c.args.token.now.me c.hold.new.token.me c.hold.ensures.taken
     c.put_if_match-reply.new.self made c.requires.idle
     (subst (λ h. KeepsRest h c.put_if_match-reply.new.self) (sym same)
@@ -42,7 +43,8 @@ returns g c =
     (Write c.args.key c.args.want.now c.args.change.now) c.in-Some.handle.seat
     c.put_if_match-reply.new.self.seat _ c.put_if_match-reply.result
     c.put_if_match-reply.ensures.wrote in
-    let made = made_in (Write c.args.key c.args.want.now c.args.change.now) c.put_if_match-reply.result in
+    let made = made_in (Write c.args.key c.args.want.now c.args.change.now)
+    c.put_if_match-reply.result in
     let keeps = subst (λ h. KeepsRest h c.put_if_match-reply.new.self) (sym same)
     c.put_if_match-reply.ensures.rest in
     let logged = subst (λ h. HasLogged h.seat c.put_if_match-reply.new.self.seat made) (sym same)

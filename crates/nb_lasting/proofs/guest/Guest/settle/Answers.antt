@@ -17,7 +17,8 @@ invariant_of-self c =
     ap (λ (m : Me (Option HandleOf) LaneView). m.0.guest) c.become_guest-2.ensures.guest
     ∙ ap (λ (m : Me (Option HandleOf) LaneView). m.0.guest) c.hand_on-own-2.ensures.guest
     ∙ c.give_last.ensures.guest in
-    let seen : log_of c.become_guest-2.new.token.me.0.seen ≡ log_of c.give_last.new.token.me.0.seen =
+    let seen : log_of c.become_guest-2.new.token.me.0.seen
+    ≡ log_of c.give_last.new.token.me.0.seen =
     ap (λ (m : Me (Option HandleOf) LaneView). log_of m.0.seen) c.become_guest-2.ensures.guest
     ∙ ap (λ (m : Me (Option HandleOf) LaneView). log_of m.0.seen) c.hand_on-own-2.ensures.guest in
     let whole = c.requires.can.0 in
@@ -27,7 +28,8 @@ invariant_of-self c =
     c.become_guest.new.token.me c.hand_on-own.result.me.0 c.args.handles.now.items
     c.become_guest.ensures.guest can in
     record {
-      table = c.become_guest-2.ensures.table ∙ c.hand_on-own.ensures.table.0 ∙ c.self.invariant.table;
+      table = c.become_guest-2.ensures.table ∙ c.hand_on-own.ensures.table.0
+          ∙ c.self.invariant.table;
       lane = c.self.invariant.lane;
       idle = record {
         guest = guest;
@@ -61,7 +63,8 @@ returns-clause-settled c =
     c.become_guest.new.token.me c.hand_on-own.result.me.0 c.args.handles.now.items
     c.become_guest.ensures.guest can in
     let given = c.give_last.ensures.settled whole taken in
-    let seen : log_of c.become_guest-2.new.token.me.0.seen ≡ log_of c.give_last.new.token.me.0.seen =
+    let seen : log_of c.become_guest-2.new.token.me.0.seen
+    ≡ log_of c.give_last.new.token.me.0.seen =
     ap (λ (m : Me (Option HandleOf) LaneView). log_of m.0.seen) c.become_guest-2.ensures.guest
     ∙ ap (λ (m : Me (Option HandleOf) LaneView). log_of m.0.seen) c.hand_on-own-2.ensures.guest in (
       handed-settle whole c.self.inside.lane c.give_last.new.token.me c.hand_on-own-2.new.token.me

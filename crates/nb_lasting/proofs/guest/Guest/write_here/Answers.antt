@@ -19,11 +19,13 @@ returns g c =
     let call = Write c.args.key c.args.want.now c.args.change.now in
     record {
       wrote =
-          subst (λ (guest : GuestOf). HasWrittenHere call guest after c.write_through.result) c.self.view_is
+          subst (λ (guest : GuestOf). HasWrittenHere call guest after c.write_through.result)
+          c.self.view_is
           (written-through call (guest_of c.self.inside) after c.self.inside.token.me.0
           c.write_through.new.token.me.0 c.write_through.result refl refl refl refl
           c.write_through.ensures.called);
-      visited = subst (λ (guest : GuestOf). HasTriedBy call guest after.account c.write_through.result)
+      visited = subst (λ (guest : GuestOf). HasTriedBy call guest after.account
+          c.write_through.result)
           c.self.view_is c.write_through.ensures.visited;
       left = ap (λ (guest : GuestOf). guest.left) c.self.view_is;
     }

@@ -52,7 +52,8 @@ loop-preserved g c =
       tt,
       tt,
       then-first c.args.self.now c.loop.self c.try_write.new.self [] c.loop.invariant.2
-          (subst (λ reply. GuestHasTried call c.loop.self c.try_write.new.self (Ok reply)) c.in_default.is
+          (subst (λ reply. GuestHasTried call c.loop.self c.try_write.new.self
+          (Ok reply)) c.in_default.is
           c.in_ok-reply.ensures.tried),
       grown-then c.args.self.now.account c.loop.self.account c.try_write.new.self.account
           c.loop.invariant.3

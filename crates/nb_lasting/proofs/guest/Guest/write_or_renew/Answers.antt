@@ -19,7 +19,8 @@ returns g c =
     let call = Write c.args.key c.args.want.now c.args.change.now in
     record {
       tried =
-          subst (λ (guest : GuestOf). GuestHasTried call guest after c.write_or_renew.result) c.self.view_is
+          subst (λ (guest : GuestOf). GuestHasTried call guest after c.write_or_renew.result)
+          c.self.view_is
           (tried-through call (guest_of c.self.inside) after c.self.inside.token.me.0
           c.write_or_renew.new.token.me.0 c.write_or_renew.result refl refl refl refl
           c.write_or_renew.ensures.tried);
