@@ -1,22 +1,33 @@
 -- How often a guest's write takes its handle.
-use Rattle.std.proofs.Common.{◌≡◌, ◌+◌, ◌<◌, ◌≤◌, ◌≢◌, ℕ, List, zero, suc, Some, arith, inl, inr, refl, subst, sym}
+use Rattle.std.proofs.Common.{◌≡◌, ◌∙◌, ◌+◌, ◌≤◌, ◌≢◌, ◌⊎◌, ℕ, List, Some, ap, arith, inl, inr, refl, subst, sym}
 use Rattle.std.specs.Prelude.{Err, None, Ok, Option, Result}
 use Rattle.nb_core.specs.declared.calls.Call.{Call}
 use Rattle.nb_core.specs.declared.calls.Reply.{Reply}
+use Rattle.nb_map.specs.Logs.{made_in}
 use Rattle.nb_map.specs.declared.faults.PutFault.{PutFault}
 use Rattle.nb_lasting.proofs.Grown.{grown-then, visited-grown}
 use Rattle.nb_lasting.specs.Guests.{GuestHasCalled, GuestHasWorked, GuestOf, HasTriedBy, IsOfOneVisit, IsUndone, calls_left}
 use Rattle.nb_lasting.specs.Visits.{HasGrown}
 use Rattle.nb_lasting.specs.declared.faults.WriteFault.{WriteFault}
 use Rattle.nb_lasting.specs.declared.shared.Account.{Account}
-use Rattle.nb_lasting.specs.inside.Guests.{GuestHasBegun, HasTriedFirst, with_calls_left}
+use Rattle.nb_lasting.specs.inside.Guests.{GuestHasBegun, HasTriedFirst, HasWrittenHere, with_calls_left}
 
 -- by one visit
 pub once-by :
     (call : Call) (before after : GuestOf) (outcome : Result Reply PutFault)
-    → HasTriedBy call before after.account outcome → IsOfOneVisit call before after
-once-by call before after outcome visit =
-    record { outcome = outcome; then = after.account; first = visit; only = inl refl }
+    → HasTriedBy call before after.account outcome → HasWrittenHere call before after outcome
+    → IsOfOneVisit call before after
+once-by call before after outcome visit wrote = record {
+  outcome = outcome;
+  then = after.account;
+  first = visit;
+  only = inl (refl, called outcome wrote);
+}
+  where
+    called : (outcome : Result Reply PutFault) → HasWrittenHere call before after outcome
+        → GuestHasCalled before after (made_in call outcome)
+    called (Ok reply) wrote = wrote
+    called (Err fault) wrote = wrote.0
 
 -- by more than one
 pub begun-by :
@@ -74,8 +85,8 @@ tried-grown call before after result tried = by result tried
     once : IsOfOneVisit call before after → HasGrown before.account after.account
     once taken =
         elim taken.only [
-          | inl same ↦
-              subst (HasGrown before.account) (sym same)
+          | inl one ↦
+              subst (HasGrown before.account) (sym one.0)
               (first taken.outcome taken.then taken.first)
           | inr more ↦
               grown-then before.account taken.then after.account
@@ -89,11 +100,6 @@ tried-grown call before after result tried = by result tried
         (first begun.outcome begun.then begun.first) begun.grown
     by (Ok (Some reply)) taken = once taken
     by (Err fault) taken = once taken
-
--- where no look is due
-pub calls-are-left : (left : ℕ) → 0 < left → calls_left left ≡ left
-calls-are-left zero some = absurd (omega (arith, some))
-calls-are-left (suc n) some = refl
 
 -- ---- a write, after the look that was due
 
@@ -122,10 +128,24 @@ pub worked-counted :
     (call : Call) (first middle last counted : GuestOf) → (first.left ≢ 0 → middle ≡ first)
     → middle.left ≡ calls_left first.left → IsOfOneVisit call middle last
     → last.left ≡ middle.left → HasCounted last counted → GuestHasWorked call first counted
-worked-counted call first middle last counted same left once kept count =
-    subst (λ (guest : GuestOf). GuestHasWorked call first guest) (sym count.1) (record {
-      once = λ some.
-          let was = subst (λ (guest : GuestOf). IsOfOneVisit call guest last) (same some) once in
-          record { outcome = was.outcome; then = was.then; first = was.first; only = was.only };
-      left = omega (arith, left, kept, count.2);
-    })
+worked-counted call first middle last counted same left once kept count = record {
+  once = λ some.
+      let was = subst (λ (guest : GuestOf). IsOfOneVisit call guest last) (same some) once in
+      record {
+        outcome = was.outcome;
+        then = was.then;
+        first = was.first;
+        only = elim was.only [
+          | inl one ↦ inl (
+            account ∙ one.0,
+            counted-replied first last counted (made_in call was.outcome) count one.1,
+          )
+          | inr more ↦ inr (more.0, subst (HasGrown was.then) (sym account) more.1)
+        ];
+      };
+  left = (let is = ap (λ (guest : GuestOf). guest.left) count.1 in
+      omega (arith, left, kept, count.2, is));
+}
+  where
+    account : counted.account ≡ last.account
+    account = ap (λ (guest : GuestOf). guest.account) count.1

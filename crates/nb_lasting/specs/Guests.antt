@@ -7,6 +7,7 @@ use Rattle.nb_core.specs.Log.{Entry, IsReplayed, Numbers, calls_of, map_of_log}
 use Rattle.nb_core.specs.declared.calls.Call.{Call}
 use Rattle.nb_core.specs.declared.calls.Reply.{Reply}
 use Rattle.nb_map.specs.Ending.{EndedOf, map_left}
+use Rattle.nb_map.specs.Logs.{made_in}
 use Rattle.nb_map.specs.Progress.{Tries}
 use Rattle.nb_map.specs.Promises.{HasGot, HasWritten, replied_or_refused}
 use Rattle.nb_map.specs.declared.faults.PutFault.TheVariants as put_fault
@@ -90,12 +91,15 @@ IsUndone (Err put_fault.ValueRange) = ⊥
 IsUndone (Err put_fault.Full) = Unit {0}
 IsUndone (Err put_fault.Contended) = Unit {0}
 
--- So it did at first, and no more, unless that was for nothing.
+-- So it did at first. It did no more, and has made the call just where that was made; unless that
+-- was for nothing.
 pub record IsOfOneVisit (call : Call) (before after : GuestOf) : Type 0 where
   pub outcome : Result Reply PutFault
   pub then : Account
   pub first : HasTriedBy call before then outcome
-  pub only : (after.account ≡ then) ⊎ (IsUndone outcome × HasGrown then after.account)
+  pub only :
+      ((after.account ≡ then) × GuestHasCalled before after (made_in call outcome))
+      ⊎ (IsUndone outcome × HasGrown then after.account)
 
 -- how many writes at least come before the next look, where one that is due is made first
 abbrev pub calls_left : ℕ → ℕ

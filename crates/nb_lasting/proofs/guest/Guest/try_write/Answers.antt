@@ -10,11 +10,13 @@ pub returns-in-Ok-clause-first : goal.returns-in-Ok-clause-first
 returns-in-Ok-clause-first g c =
     once-by (Write c.args.key c.args.want.now c.args.change.now) c.args.self.now
     c.write_here.new.self c.write_here.result c.write_here.ensures.visited
+    c.write_here.ensures.wrote
 
 pub returns-in-Err-ValueRange-clause-first : goal.returns-in-Err-ValueRange-clause-first
 returns-in-Err-ValueRange-clause-first g c =
     once-by (Write c.args.key c.args.want.now c.args.change.now) c.args.self.now
     c.write_here.new.self c.write_here.result c.write_here.ensures.visited
+    c.write_here.ensures.wrote
 
 pub returns-in-Err-Contended-clause-first : goal.returns-in-Err-Contended-clause-first
 returns-in-Err-Contended-clause-first g c =
