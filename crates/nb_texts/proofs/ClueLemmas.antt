@@ -1,23 +1,26 @@
 -- Clues to lines, and the readers that found them.
-use Rattle.std.proofs.Common.{◌≡◌, ◌≢◌, ◌∙◌, ℕ, List, [], ◌∷◌, ◌++◌, All, Option, Some, ap, append-nil, append_assoc, map, refl, reverse, subst, subst₂, sym}
+use Rattle.std.proofs.Common.{◌≡◌, ◌≢◌, ◌∙◌, ℕ, true, false, List, [], ◌∷◌, ◌++◌, All, Option, Some, ap, append-nil, append_assoc, map, refl, reverse, subst, subst₂, sym}
 use Rattle.std.specs.List.{AllZip}
 use Rattle.std.specs.Prelude.{slice_get}
 use Rattle.std.proofs.lemmas.List.{map-append, reverse-append}
 use Rattle.std.proofs.lemmas.List.Elements.{All-append, All-cons, All-head, All-nil, All-push, All-tail}
-use Rattle.nb_map.proofs.Theorems.{logs_add_up}
+use Rattle.nb_core.specs.Plans.{Plan}
+use Rattle.nb_map.proofs.Theorems.{asks_add_up, logs_add_up}
 use Rattle.nb_map.specs.Bulk.{read_as}
 use Rattle.nb_map.specs.Entries.{IsRead}
 use Rattle.nb_map.specs.Handles.{HandleOf, IsSameMap, KeepsRest, handle_on}
 use Rattle.nb_map.specs.Maps.{IsMine, MapOf, SeatOf}
 use Rattle.nb_map.specs.Promises.{HasGot}
+use Rattle.nb_texts.specs.Claims.{HasClaimedBy}
 use Rattle.nb_texts.specs.Clues.{AreCluesTo, AreFound, ArePartedFrom, HasOnlyLooked, IsClueTo}
-use Rattle.nb_texts.specs.Entering.{HasEntered}
+use Rattle.nb_texts.specs.Entering.{HasEntered, HasStopped}
 use Rattle.nb_texts.specs.Hashes.{key_for}
 use Rattle.nb_texts.specs.declared.clues.Clue.TheVariants.{Hash, Place}
 use Rattle.nb_texts.specs.declared.clues.Clue.{Clue}
 use Rattle.nb_texts.specs.declared.clues.Found.{Found}
 use Rattle.nb_texts.specs.declared.hashing.Hashing.{Hashing}
 use Rattle.nb_texts.proofs.FindingLemmas.{entered-none, entered-then, get-left, places-more}
+use Rattle.nb_texts.proofs.FullLemmas.{stopped-then}
 
 module _ {A B : Type 0} (R : A → B → Type 0) where
   -- what holds of two pairs of lists, element by element, holds of them one behind the other
@@ -56,6 +59,7 @@ looked-none handle mine = record {
   made = [];
   reads = All-nil IsRead;
   logged = logs_add_up.none mine;
+  claims = λ earlier asked. asked;
 }
 
 -- one that has read a key,
@@ -68,6 +72,9 @@ looked-once before after key found got rest = record {
   made = read_as key found ∷ [];
   reads = All-cons IsRead (read_as key found) [] (key, found, refl) (All-nil IsRead);
   logged = got.replied;
+  claims = λ earlier asked.
+      asks_add_up.more got.own.chain.plan (λ k filled. filled) (λ is. absurd (let wrong : false ≡ true = is in cc)) asked
+      got.worked.steps;
 }
 
 -- and one that has gone on
@@ -82,6 +89,9 @@ looked-more before then after first second = record {
   made = second.made ++ first.made;
   reads = All-append IsRead second.made first.made second.reads first.reads;
   logged = logs_add_up.more first.logged second.logged;
+  claims = λ earlier asked.
+      subst (λ (m : MapOf). HasClaimedBy m.chain.shape [] then.seat after.seat) first.rest.map
+      second.claims earlier (first.claims earlier asked);
 }
 
 -- what was found of two texts by some readers and by others was found of both by all
@@ -205,7 +215,7 @@ next-clue hashing texts (line ∷ lines) clue clues (right, rest) =
 
 -- Of these lines some were entered, at these places, and there are clues to the others.
 pub record HasEnteredSoFar
-    (hashing : Hashing) (before now : SeatOf) (texts texts' lines left : List (List ℕ))
+    (p : Plan) (hashing : Hashing) (before now : SeatOf) (texts texts' lines left : List (List ℕ))
     (clues : List Clue) (places : List ℕ)
     : Type 0 where
   pub clued : AreCluesTo hashing texts left clues
@@ -213,27 +223,27 @@ pub record HasEnteredSoFar
   pub grown : texts' ≡ texts ++ more
   pub done : List (List ℕ)
   pub are : lines ≡ done ++ left
-  pub entered : HasEntered (key_for hashing) before now texts texts' done
+  pub entered : HasEntered p (key_for hashing) before now texts texts' done
   pub placed : map (slice_get texts') places ≡ map Some done
 
 pub entering-begun :
-    (hashing : Hashing) (m : MapOf) (seat : SeatOf) (texts lines : List (List ℕ)) (clues : List Clue)
-    (places : List ℕ) → IsMine m seat → AreCluesTo hashing texts lines clues → places ≡ []
-    → HasEnteredSoFar hashing seat seat texts texts lines lines clues places
-entering-begun hashing m seat texts lines clues places mine clued none = record {
+    (p : Plan) (hashing : Hashing) (m : MapOf) (seat : SeatOf) (texts lines : List (List ℕ))
+    (clues : List Clue) (places : List ℕ) → IsMine m seat → AreCluesTo hashing texts lines clues
+    → places ≡ [] → HasEnteredSoFar p hashing seat seat texts texts lines lines clues places
+entering-begun p hashing m seat texts lines clues places mine clued none = record {
   clued = clued;
   more = [];
   grown = sym (append-nil texts);
   done = [];
   are = refl;
-  entered = entered-none (key_for hashing) m seat texts mine;
+  entered = entered-none p (key_for hashing) m seat texts mine;
   placed = ap (map (slice_get texts)) none;
 }
 
 module _
-    (hashing : Hashing) (before now : SeatOf) (texts texts' lines left : List (List ℕ))
+    (p : Plan) (hashing : Hashing) (before now : SeatOf) (texts texts' lines left : List (List ℕ))
     (clues : List Clue) (places : List ℕ)
-    (so_far : HasEnteredSoFar hashing before now texts texts' lines left clues places) where
+    (so_far : HasEnteredSoFar p hashing before now texts texts' lines left clues places) where
   -- where a clue is left, so is a line
   pub some-left : (clue : Clue) (rest : List Clue) → clues ≡ clue ∷ rest → left ≢ []
   some-left clue rest are none =
@@ -257,9 +267,9 @@ module _
       (clue : Clue) (rest : List Clue) (line : List ℕ) (left' : List (List ℕ)) (next : SeatOf)
       (texts'' more : List (List ℕ)) (places' : List ℕ) (place : ℕ)
       → clues ≡ clue ∷ rest → left ≡ line ∷ left'
-      → HasEntered (key_for hashing) now next texts' texts'' (line ∷ []) → texts'' ≡ texts' ++ more
+      → HasEntered p (key_for hashing) now next texts' texts'' (line ∷ []) → texts'' ≡ texts' ++ more
       → slice_get texts'' place ≡ Some line → places' ≡ places ++ place ∷ []
-      → HasEnteredSoFar hashing before next texts texts'' lines left' rest places'
+      → HasEnteredSoFar p hashing before next texts texts'' lines left' rest places'
   entering-more clue rest line left' next texts'' more places' place are split entered grown at pushed =
       let clued = next-clue hashing texts left clue rest (subst (AreCluesTo hashing texts left) are so_far.clued) in
       let same : clued.line ∷ clued.lines ≡ line ∷ left' = sym clued.is ∙ split in
@@ -274,12 +284,23 @@ module _
             so_far.are ∙ ap (λ left. so_far.done ++ left) split
             ∙ sym (append_assoc so_far.done (line ∷ []) left');
         entered =
-            entered-then (key_for hashing) before now next texts texts' texts'' so_far.done
+            entered-then p (key_for hashing) before now next texts texts' texts'' so_far.done
             (line ∷ []) so_far.entered entered;
         placed =
             ap (map (slice_get texts'')) pushed
             ∙ places-more texts' texts'' more places so_far.done place line grown so_far.placed at;
       }
+
+  -- or it finds no room
+  pub entering-stopped :
+      (line : List ℕ) (left' : List (List ℕ)) (next : SeatOf) → left ≡ line ∷ left'
+      → HasStopped p (key_for hashing) now next texts' (line ∷ [])
+      → HasStopped p (key_for hashing) before next texts lines
+  entering-stopped line left' next split stopped =
+      subst (HasStopped p (key_for hashing) before next texts)
+      (sym (so_far.are ∙ ap (λ left. so_far.done ++ left) split))
+      (stopped-then p (key_for hashing) before now next texts texts' so_far.done (line ∷ []) left'
+      so_far.entered stopped)
 
   -- and all are, where no clue is left
   pub entering-done : clues ≡ [] → so_far.done ≡ lines

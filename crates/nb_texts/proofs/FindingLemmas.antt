@@ -1,42 +1,46 @@
 -- A text is looked for at one key after another.
-use Rattle.std.proofs.Common.{◌≡◌, ◌≢◌, ◌∙◌, ◌+◌, ◌<◌, ℕ, zero, suc, Bool, true, false, cond, eqb, if◌then◌else◌, List, [], ◌∷◌, ◌++◌, None, Option, Some, ap, ap₂, arith, below_more, inl, inr, ◌⊎◌, length, map, refl, subst, sym}
+use Rattle.std.proofs.Common.{◌≡◌, ◌≢◌, ◌∙◌, ◌+◌, ◌<◌, ℕ, zero, suc, All, Bool, true, false, cond, eqb, if◌then◌else◌, List, [], ◌∷◌, ◌++◌, None, Option, Some, ap, ap₂, append_assoc, arith, below_more, inl, inr, is_some, ◌⊎◌, length, length-append, map, refl, subst, sym}
 use Rattle.std.specs.Cmp.{nat_cmp_total, unsigned_tied}
-use Rattle.std.specs.FinMap.{get, get-insert, insert}
+use Rattle.std.specs.FinMap.{get, get-insert, insert, len, len-insert}
 use Rattle.std.specs.Prelude.{slice_get}
 use Rattle.std.proofs.lemmas.Bool.{cases_Bool, cases_lt, eq-eqb, eqb-true, or_left, or_right}
 use Rattle.std.proofs.lemmas.List.{map-append}
+use Rattle.std.proofs.lemmas.List.Elements.{All-append, All-cons, All-nil}
 use Rattle.std.proofs.lemmas.Slice.Eq.{bytes_eq-Decides}
 use Rattle.core.specs.Str.{bytes_eq}
 use Rattle.nb_core.specs.Log.{Numbers, changed, holds_of, map_after, reply_of, with_at}
+use Rattle.nb_core.specs.Plans.{Plan}
 use Rattle.nb_core.specs.declared.calls.Call.{Call}
 use Rattle.nb_core.specs.declared.calls.Change.TheVariants.{Put}
 use Rattle.nb_core.specs.declared.calls.Reply.{Reply}
 use Rattle.nb_core.specs.declared.calls.Want.TheVariants.{Absent}
 use Rattle.nb_map.proofs.Theorems.{logs_add_up}
+use Rattle.nb_map.specs.Crowding.{HasAskedFor}
 use Rattle.nb_map.specs.Logs.{HasFound, HasLogged}
 use Rattle.nb_map.specs.Maps.{IsMine, MapOf, SeatOf}
 use Rattle.nb_map.specs.NamedCalls.{put_if_absent_of}
-use Rattle.nb_texts.specs.Entering.{AreReplayed, HasEntered, IsFoundAt, IsIndex, map_after_calls}
+use Rattle.nb_texts.specs.Claims.{HasClaimedBy}
+use Rattle.nb_texts.specs.Entering.{AreReplayed, HasEntered, IsFoundAt, IsIndex, PutsIfAbsent, calls_in, map_after_calls}
 use Rattle.nb_texts.specs.Lines.{is_among, with_new_lines}
 use Rattle.nb_texts.proofs.LinesLemmas.{with-append}
 
 -- ---- a put where nothing is there
 
-put-absent :
+pub put-absent :
     (m : Numbers) (k n : ℕ) → get m k ≡ None → map_after (put_if_absent_of k n) m ≡ insert m k n
 put-absent m k n none =
     ap (λ (o : Option ℕ). if holds_of Absent o then with_at m k (changed (Put n) o) else m) none
 
-put-present :
+pub put-present :
     (m : Numbers) (k n v : ℕ) → get m k ≡ Some v → map_after (put_if_absent_of k n) m ≡ m
 put-present m k n v there =
     ap (λ (o : Option ℕ). if holds_of Absent o then with_at m k (changed (Put n) o) else m) there
 
-got : (m : Numbers) (k n j : ℕ) → get (insert m k n) j ≡ cond (eqb j k) (Some n) (get m j)
+pub got : (m : Numbers) (k n j : ℕ) → get (insert m k n) j ≡ cond (eqb j k) (Some n) (get m j)
 got m k n j =
     get-insert nat_cmp_total m k n j ∙ ap (λ b. cond b (Some n) (get m j)) (unsigned_tied j k)
 
-got-new : (m : Numbers) (k n : ℕ) → get (insert m k n) k ≡ Some n
+pub got-new : (m : Numbers) (k n : ℕ) → get (insert m k n) k ≡ Some n
 got-new m k n = got m k n k ∙ of (eqb k k) refl
   where
     of : (b : Bool) → eqb k k ≡ b → cond b (Some n) (get m k) ≡ Some n
@@ -110,32 +114,62 @@ replayed-parts (made ∷ later) first m (reply, replayed) =
     let parts = replayed-parts later first m replayed in
     ((reply ∙ ap (reply_of made.0) (after-append later first m), parts.0), parts.1)
 
+-- ---- what seats claim
+
+-- what was claimed for some calls, and for others since, was claimed for all
+pub claimed-then :
+    (p : Plan) (first later : List (Call × Reply)) (before mid after : SeatOf)
+    → HasClaimedBy p (calls_in first) before mid → HasClaimedBy p (calls_in later) mid after
+    → HasClaimedBy p (calls_in (later ++ first)) before after
+claimed-then p first later before mid after one two = λ earlier asked.
+    subst (λ calls. HasAskedFor p calls after.chain)
+    (sym (append_assoc (calls_in later) (calls_in first) earlier)
+    ∙ ap (λ calls. calls ++ earlier) (sym (map-append (λ (made : Call × Reply). made.0) later first)))
+    (two (calls_in first ++ earlier) (one earlier asked))
+
 -- ---- a text that wasn't found at some keys
 
--- The seat has made calls that found another text at each of so many keys, and so changed nothing.
-pub record HasTried (key : ℕ → ℕ) (before now : SeatOf) (texts : List (List ℕ)) (text : List ℕ)
-    (tries : ℕ) : Type 0 where
+-- The seat has made puts that found another text at each of so many keys, and so changed nothing.
+pub record HasTried (p : Plan) (key : ℕ → ℕ) (before now : SeatOf) (texts : List (List ℕ))
+    (text : List ℕ) (tries : ℕ) : Type 0 where
   pub made : List (Call × Reply)
   pub logged : HasLogged before now made
+  pub puts : All PutsIfAbsent made
+  pub claims : HasClaimedBy p (calls_in made) before now
   pub same : (m : Numbers) → AreReplayed made m → map_after_calls made m ≡ m
   pub passed :
       (m : Numbers) → AreReplayed made m → (earlier : ℕ) → earlier < tries
       → (place : ℕ) × (get m (key earlier) ≡ Some place) × (slice_get texts place ≢ Some text)
 
 pub tried-none :
-    (key : ℕ → ℕ) (map : MapOf) (seat : SeatOf) (texts : List (List ℕ)) (text : List ℕ)
-    → IsMine map seat → HasTried key seat seat texts text 0
-tried-none key map seat texts text mine = record {
+    (p : Plan) (key : ℕ → ℕ) (map : MapOf) (seat : SeatOf) (texts : List (List ℕ)) (text : List ℕ)
+    → IsMine map seat → HasTried p key seat seat texts text 0
+tried-none p key map seat texts text mine = record {
   made = [];
   logged = logs_add_up.none mine;
+  puts = All-nil PutsIfAbsent;
+  claims = λ earlier asked. asked;
   same = λ m replayed. refl;
   passed = λ m replayed earlier less. absurd (omega (arith, less));
 }
 
 module _
-    (key : ℕ → ℕ) (before now next : SeatOf) (texts : List (List ℕ)) (text : List ℕ) (tries n : ℕ)
-    (tried : HasTried key before now texts text tries)
+    (p : Plan) (key : ℕ → ℕ) (before now next : SeatOf) (texts : List (List ℕ)) (text : List ℕ)
+    (tries n : ℕ) (tried : HasTried p key before now texts text tries)
+    (claims : HasClaimedBy p (put_if_absent_of (key tries) n ∷ []) now next)
   where
+    -- the puts with the next one
+    abbrev more : Reply → List (Call × Reply)
+    more reply = (put_if_absent_of (key tries) n, reply) ∷ tried.made
+
+    puts-more : (reply : Reply) → All PutsIfAbsent (more reply)
+    puts-more reply =
+        All-cons PutsIfAbsent (put_if_absent_of (key tries) n, reply) tried.made
+        (key tries, n, refl) tried.puts
+
+    claims-more : (reply : Reply) → HasClaimedBy p (calls_in (more reply)) before next
+    claims-more reply = λ earlier asked. claims (calls_in tried.made ++ earlier) (tried.claims earlier asked)
+
     -- what the call at the next key shows of the map
     shown :
         (number : Option ℕ) (found : HasFound (put_if_absent_of (key tries) n) now next number)
@@ -148,10 +182,12 @@ module _
 
     pub tried-more :
         (place : ℕ) → HasFound (put_if_absent_of (key tries) n) now next (Some place)
-        → slice_get texts place ≢ Some text → HasTried key before next texts text (tries + 1)
+        → slice_get texts place ≢ Some text → HasTried p key before next texts text (tries + 1)
     tried-more place found other = record {
       made = (put_if_absent_of (key tries) n, found.0) ∷ tried.made;
       logged = logs_add_up.more tried.logged found.2;
+      puts = puts-more found.0;
+      claims = claims-more found.0;
       same = λ m replayed.
           ap (map_after (put_if_absent_of (key tries) n)) (tried.same m replayed.1)
           ∙ put-present m (key tries) n place (shown (Some place) found m replayed);
@@ -162,34 +198,13 @@ module _
     }
 
 module _
-    (keys : List ℕ → ℕ → ℕ) (before now next : SeatOf) (texts : List (List ℕ)) (text : List ℕ)
-    (tries n : ℕ) (tried : HasTried (keys text) before now texts text tries)
+    (p : Plan) (keys : List ℕ → ℕ → ℕ) (before now : SeatOf) (texts : List (List ℕ))
+    (text : List ℕ) (tries : ℕ) (tried : HasTried p (keys text) before now texts text tries)
   where
-    abbrev key : ℕ
-    key = keys text tries
-
-    -- the text is found there
-    pub entered-found :
-        (place : ℕ) → HasFound (put_if_absent_of (keys text tries) n) now next (Some place)
-        → slice_get texts place ≡ Some text → HasEntered keys before next texts texts (text ∷ [])
-    entered-found place found at = record {
-      made = (put_if_absent_of key n, found.0) ∷ tried.made;
-      logged = logs_add_up.more tried.logged found.2;
-      told = λ m replayed index.
-          let there = shown (keys text) before now next texts text tries n tried (Some place) found m
-          replayed in
-          let same : map_after (put_if_absent_of key n) (map_after_calls tried.made m) ≡ m
-          = ap (map_after (put_if_absent_of key n)) (tried.same m replayed.1)
-          ∙ put-present m key n place there in (
-            subst (IsIndex keys texts) (sym same) index,
-            sym (ap (λ (b : Bool). if b then texts else texts ++ text ∷ []) (among texts text place at)),
-          );
-    }
-
-    -- nothing is there: it is no text so far
+    -- where nothing is at its next key, the text is none so far
     absent :
-        (m : Numbers) → AreReplayed tried.made m → IsIndex keys texts m → get m key ≡ None
-        → (place : ℕ) → slice_get texts place ≢ Some text
+        (m : Numbers) → AreReplayed tried.made m → IsIndex keys texts m
+        → get m (keys text tries) ≡ None → (place : ℕ) → slice_get texts place ≢ Some text
     absent m replayed index none place at =
         let found = index.found place text at in
         elim (cases_lt found.tries tries) [
@@ -210,17 +225,68 @@ module _
           ]
         ]
 
+    pub tried-new :
+        (m : Numbers) → AreReplayed tried.made m → IsIndex keys texts m
+        → get (map_after_calls tried.made m) (keys text tries) ≡ None → is_among text texts ≡ false
+    tried-new m replayed index none =
+        not-among texts text (absent m replayed index
+        (ap (λ m. get m (keys text tries)) (sym (tried.same m replayed)) ∙ none))
+
+    -- no line was entered so far
+    unfoldable pub tried-entered : HasEntered p keys before now texts texts []
+    tried-entered = record {
+      made = tried.made;
+      logged = tried.logged;
+      puts = tried.puts;
+      claims = tried.claims;
+      told = λ m replayed index.
+          (subst (IsIndex keys texts) (sym (tried.same m replayed)) index, refl);
+    }
+
+module _
+    (p : Plan) (keys : List ℕ → ℕ → ℕ) (before now next : SeatOf) (texts : List (List ℕ))
+    (text : List ℕ) (tries n : ℕ) (tried : HasTried p (keys text) before now texts text tries)
+    (claims : HasClaimedBy p (put_if_absent_of (keys text tries) n ∷ []) now next)
+  where
+    abbrev key : ℕ
+    key = keys text tries
+
+    -- the text is found there
+    pub entered-found :
+        (place : ℕ) → HasFound (put_if_absent_of (keys text tries) n) now next (Some place)
+        → slice_get texts place ≡ Some text → HasEntered p keys before next texts texts (text ∷ [])
+    entered-found place found at = record {
+      made = (put_if_absent_of key n, found.0) ∷ tried.made;
+      logged = logs_add_up.more tried.logged found.2;
+      puts = puts-more p (keys text) before now next texts text tries n tried claims found.0;
+      claims = claims-more p (keys text) before now next texts text tries n tried claims found.0;
+      told = λ m replayed index.
+          let there = shown p (keys text) before now next texts text tries n tried claims (Some place)
+          found m replayed in
+          let same : map_after (put_if_absent_of key n) (map_after_calls tried.made m) ≡ m
+          = ap (map_after (put_if_absent_of key n)) (tried.same m replayed.1)
+          ∙ put-present m key n place there in (
+            subst (IsIndex keys texts) (sym same) index,
+            sym (ap (λ (b : Bool). if b then texts else texts ++ text ∷ []) (among texts text place at)),
+          );
+    }
+
     pub entered-new :
         HasFound (put_if_absent_of (keys text tries) n) now next None → n ≡ length texts
-        → HasEntered keys before next texts (texts ++ text ∷ []) (text ∷ [])
+        → HasEntered p keys before next texts (texts ++ text ∷ []) (text ∷ [])
     entered-new found last = record {
       made = (put_if_absent_of key n, found.0) ∷ tried.made;
       logged = logs_add_up.more tried.logged found.2;
+      puts = puts-more p (keys text) before now next texts text tries n tried claims found.0;
+      claims = claims-more p (keys text) before now next texts text tries n tried claims found.0;
       told = λ m replayed index.
-          let none = shown (keys text) before now next texts text tries n tried None found m replayed in
+          let none = shown p (keys text) before now next texts text tries n tried claims None found m
+          replayed in
           let same : map_after (put_if_absent_of key n) (map_after_calls tried.made m) ≡ insert m key n
           = ap (map_after (put_if_absent_of key n)) (tried.same m replayed.1)
-          ∙ put-absent m key n none in (
+          ∙ put-absent m key n none in
+          let one_more : len (insert m key n) ≡ len m + 1
+          = len-insert nat_cmp_total m key n ∙ ap (λ o. cond (is_some o) (len m) (len m + 1)) none in (
             subst (IsIndex keys (texts ++ text ∷ [])) (sym same) (record {
               found = λ place line at. elim (get-push texts text place line at) [
                 | inl old ↦
@@ -241,24 +307,28 @@ module _
                           (other.0, got-kept m key n (keys text earlier) other.0 none other.1);
                     })
               ];
+              keys = omega (arith, one_more, index.keys, length-append texts (text ∷ []));
             }),
             sym (ap (λ (b : Bool). if b then texts else texts ++ text ∷ [])
-                (not-among texts text (absent m replayed.1 index none))),
+                (not-among texts text (absent p keys before now texts text tries tried m replayed.1
+                index none))),
           );
     }
 
--- any map is an index of no texts
-pub index-none : (keys : List ℕ → ℕ → ℕ) (m : Numbers) → IsIndex keys [] m
-index-none keys m = record { found = λ place text at. absurd cc }
+-- an empty map is an index of no texts
+pub index-none : (keys : List ℕ → ℕ → ℕ) (m : Numbers) → len m ≡ 0 → IsIndex keys [] m
+index-none keys m none = record { found = λ place text at. absurd cc; keys = none }
 
 -- a text that is there is entered by no call
 pub entered-known :
-    (keys : List ℕ → ℕ → ℕ) (map : MapOf) (seat : SeatOf) (texts : List (List ℕ)) (text : List ℕ)
-    (place : ℕ) → IsMine map seat → slice_get texts place ≡ Some text
-    → HasEntered keys seat seat texts texts (text ∷ [])
-entered-known keys map seat texts text place mine at = record {
+    (p : Plan) (keys : List ℕ → ℕ → ℕ) (map : MapOf) (seat : SeatOf) (texts : List (List ℕ))
+    (text : List ℕ) (place : ℕ) → IsMine map seat → slice_get texts place ≡ Some text
+    → HasEntered p keys seat seat texts texts (text ∷ [])
+entered-known p keys map seat texts text place mine at = record {
   made = [];
   logged = logs_add_up.none mine;
+  puts = All-nil PutsIfAbsent;
+  claims = λ earlier asked. asked;
   told = λ m replayed index. (
     index,
     sym (ap (λ (b : Bool). if b then texts else texts ++ text ∷ []) (among texts text place at)),
@@ -268,23 +338,27 @@ entered-known keys map seat texts text place mine at = record {
 -- ---- lines after lines
 
 pub entered-none :
-    (keys : List ℕ → ℕ → ℕ) (map : MapOf) (seat : SeatOf) (texts : List (List ℕ)) → IsMine map seat
-    → HasEntered keys seat seat texts texts []
-entered-none keys map seat texts mine = record {
+    (p : Plan) (keys : List ℕ → ℕ → ℕ) (map : MapOf) (seat : SeatOf) (texts : List (List ℕ))
+    → IsMine map seat → HasEntered p keys seat seat texts texts []
+entered-none p keys map seat texts mine = record {
   made = [];
   logged = logs_add_up.none mine;
+  puts = All-nil PutsIfAbsent;
+  claims = λ earlier asked. asked;
   told = λ m replayed index. (index, refl);
 }
 
-pub entered-then :
-    (keys : List ℕ → ℕ → ℕ) (before between after : SeatOf)
+unfoldable pub entered-then :
+    (p : Plan) (keys : List ℕ → ℕ → ℕ) (before between after : SeatOf)
     (texts texts' texts'' lines more : List (List ℕ))
-    → HasEntered keys before between texts texts' lines
-    → HasEntered keys between after texts' texts'' more
-    → HasEntered keys before after texts texts'' (lines ++ more)
-entered-then keys before between after texts texts' texts'' lines more first second = record {
+    → HasEntered p keys before between texts texts' lines
+    → HasEntered p keys between after texts' texts'' more
+    → HasEntered p keys before after texts texts'' (lines ++ more)
+entered-then p keys before between after texts texts' texts'' lines more first second = record {
   made = second.made ++ first.made;
   logged = logs_add_up.more first.logged second.logged;
+  puts = All-append PutsIfAbsent second.made first.made second.puts first.puts;
+  claims = claimed-then p first.made second.made before between after first.claims second.claims;
   told = λ m replayed index.
       let parts = replayed-parts second.made first.made m replayed in
       let one = first.told m parts.1 index in

@@ -1,6 +1,8 @@
 -- Lemmas.
+pub mod ClaimLemmas
 pub mod ClueLemmas
 pub mod FindingLemmas
+pub mod FullLemmas
 pub mod LinesLemmas
 pub mod MemoryLemmas
 pub mod PlacesLemmas

@@ -1,6 +1,6 @@
 -- How often each line comes, counted by the places of lines.
-use Rattle.std.proofs.Common.{◌≡◌, ◌∙◌, ◌+◌, ◌<◌, ◌==◌, ℕ, zero, suc, true, false, cond, List, [], ◌∷◌, ◌++◌, All, Some, ap, ap₂, arith, get_or, inl, inr, length, map, refl, subst, sym, zero-add}
-use Rattle.std.specs.Prelude.{count_by, slice_get, slice_index}
+use Rattle.std.proofs.Common.{◌≡◌, ◌∙◌, ◌+◌, ◌^◌, ◌<◌, ◌≤◌, ◌==◌, ℕ, zero, suc, true, false, cond, List, [], ◌∷◌, ◌++◌, All, Some, ap, ap₂, arith, get_or, inl, inr, length, length-append, map, refl, subst, sym, zero-add}
+use Rattle.std.specs.Prelude.{Contains, count_by, slice_get, slice_index}
 use Rattle.std.proofs.lemmas.Bool.{cases_Bool, cases_lt, eq-eqb, eqb-true, or_left, or_right}
 use Rattle.std.proofs.lemmas.List.{get_or_default, get_or_past, length-map, same_lists}
 use Rattle.std.proofs.lemmas.List.Elements.{All-cons, All-head, All-nil, All-tail}
@@ -11,7 +11,7 @@ use Rattle.core.specs.Str.{bytes_eq}
 use Rattle.nb_texts.proofs.FindingLemmas.{among, get-left, get-push, not-among}
 use Rattle.nb_texts.proofs.LinesLemmas.{with-append, with-grows}
 use Rattle.nb_texts.specs.Lines.{is_among, with_new_lines}
-use Rattle.nb_texts.specs.Tallies.{IsTally, times}
+use Rattle.nb_texts.specs.Tallies.{ComesTooOften, IsTally, times}
 
 -- ---- no line is there twice
 
@@ -174,13 +174,8 @@ index-map f (t ∷ texts) zero text at = let same : t ≡ text = cc in ap f same
 index-map f (t ∷ texts) (suc q) text at = index-map f texts q text at
 
 module _
-    (lines texts block : List (List ℕ)) (texts' : List (List ℕ)) (counts counts' places : List ℕ)
+    (lines texts block texts' : List (List ℕ)) (counts : List ℕ)
     (tally : IsTally lines texts counts) (entered : texts' ≡ with_new_lines texts block)
-    (are : map (slice_get texts') places ≡ map Some block)
-    (many : length counts' ≡ length texts')
-    (counted :
-    (q : ℕ) → q < length texts'
-    → slice_index counts' q ≡ slice_index counts q + count_by (λ place. place == q) places)
   where
     all-once : IsOnce texts'
     all-once =
@@ -219,6 +214,64 @@ module _
               (all-with [] lines)))
         ]
 
+    -- there are no more counts than texts
+    pub counts-few : length counts ≤ length texts'
+    counts-few =
+        let grown = with-grows texts block in
+        omega (
+          arith,
+          ap length (entered ∙ grown.1),
+          length-append texts grown.0,
+          ap length tally.told,
+          length-map texts (λ line. times line lines),
+        )
+
+-- the line at one of the places
+line-at :
+    (texts : List (List ℕ)) (q k : ℕ) (places : List ℕ) (lines : List (List ℕ))
+    → map (slice_get texts) places ≡ map Some lines → k < length places → get_or places k q ≡ q
+    → (line : List ℕ) × (slice_get texts q ≡ Some line) × Contains lines line
+line-at texts q k [] lines are less is = absurd (omega (arith, less))
+line-at texts q k (place ∷ places) [] are less is = absurd cc
+line-at texts q zero (place ∷ places) (line ∷ lines) are less is =
+    let here : slice_get texts place ≡ Some line = cc in
+    (line, ap (slice_get texts) (sym is) ∙ here, (0, omega arith, refl))
+line-at texts q (suc k) (place ∷ places) (line ∷ lines) are less is =
+    let rest : map (slice_get texts) places ≡ map Some lines = cc in
+    let found = line-at texts q k places lines rest (omega (arith, less)) is in
+    let at = found.2 in
+    (found.0, found.1, (suc at.0, omega (arith, at.1), at.2))
+
+module _
+    (lines texts block texts' : List (List ℕ)) (counts counts' places : List ℕ)
+    (tally : IsTally lines texts counts) (entered : texts' ≡ with_new_lines texts block)
+    (are : map (slice_get texts') places ≡ map Some block)
+    (many : length counts' ≡ length texts')
+  where
+    -- where a count would be past the greatest one
+    pub tally-often :
+        (q : ℕ) → Contains places q → slice_index counts' q ≡ slice_index counts q
+        → (q < length counts'
+        → 2 ^ 64 ≤ slice_index counts' q + count_by (λ place. place == q) places)
+        → ComesTooOften lines block
+    tally-often q at same past =
+        let found = line-at texts' q at.0 places block are at.1 at.2 in
+        let within = slice_get_within texts' q found.0 found.1 in
+        let over = past (omega (arith, within, many)) in
+        let old = before lines texts block texts' counts tally entered q found.0 found.1 in
+        let new = places-times texts' places block q found.0
+        (all-once lines texts block texts' counts tally entered) found.1 are in
+        (found.0, found.2, omega (arith, over, same, old, new, times-append found.0 lines block))
+
+module _
+    (lines texts block texts' : List (List ℕ)) (counts counts' places : List ℕ)
+    (tally : IsTally lines texts counts) (entered : texts' ≡ with_new_lines texts block)
+    (are : map (slice_get texts') places ≡ map Some block)
+    (many : length counts' ≡ length texts')
+    (counted :
+    (q : ℕ) → q < length texts'
+    → slice_index counts' q ≡ slice_index counts q + count_by (λ place. place == q) places)
+  where
     pub tally-more : IsTally (lines ++ block) texts' counts'
     tally-more = record {
       are = entered ∙ ap (λ texts. with_new_lines texts block) tally.are
@@ -231,8 +284,9 @@ module _
           let at = get-there texts' q [] q-less in
           let here : slice_index counts' q ≡ times text (lines ++ block)
           = counted q q-less
-          ∙ ap₂ (λ m n. m + n) (before q text at)
-          (places-times texts' places block q text all-once at are)
+          ∙ ap₂ (λ m n. m + n) (before lines texts block texts' counts tally entered q text at)
+          (places-times texts' places block q text
+          (all-once lines texts block texts' counts tally entered) at are)
           ∙ sym (times-append text lines block) in
           get_or_default counts' q d 0 less ∙ here
           ∙ sym (index-map (λ line. times line (lines ++ block)) texts' q text at)

@@ -1,5 +1,6 @@
 -- The definitions that the contracts cite.
 pub mod Catalogs
+pub mod Claims
 pub mod Clues
 pub mod Entering
 pub mod Hashes

@@ -6,14 +6,15 @@ ghost use Rattle.nb_core.specs.Plans.{HasRoomFor};
 ghost use Rattle.nb_core.specs.declared.shapes.TheConstants.{MOST_KEYS};
 ghost use Rattle.nb_lines.specs.declared.faults.ProgramFault.TheVariants as fault;
 ghost use Rattle.nb_map.specs.Handles.{IsSameMap, IsWhole, KeepsRest, all_seats, handle_on, seats_of};
-ghost use Rattle.nb_map.specs.Logs.{HasFound};
+ghost use Rattle.nb_map.specs.Logs.{HasFound, HasLogged};
 ghost use Rattle.nb_map.specs.NamedCalls.{put_if_absent_of};
 ghost use Rattle.nb_map.specs.OneSeat.{held};
 ghost use Rattle.nb_map.specs.Renewing.{HasTooMany};
 ghost use Rattle.nb_map.specs.Settling.{HaveSettled};
-ghost use Rattle.nb_texts.specs.Catalogs.{CannotRenew, HaveOneLog, IsNoRoom};
+ghost use Rattle.nb_texts.specs.Catalogs.{CannotRenew, HaveClaimed, HaveOneLog, IsNoRoom};
+ghost use Rattle.nb_texts.specs.Claims.{HasClaimedBy};
 ghost use Rattle.nb_texts.specs.Clues.{AreCluesTo, ArePartedFrom, IsClueTo};
-ghost use Rattle.nb_texts.specs.Entering.{HasEntered};
+ghost use Rattle.nb_texts.specs.Entering.{HasEntered, HasStopped};
 ghost use Rattle.nb_texts.specs.Hashes.{hash_of, key_for};
 ghost use Rattle.nb_texts.specs.Lines.{lines_in, text_of_lines, with_new_lines};
 ghost use Rattle.nb_texts.specs.Memory.{bytes_to_make, lines_with, shape_with_room, widened};
@@ -214,7 +215,8 @@ impl Catalog {
 
     /// Enters the lines of a block, in their order, and answers their places. Several workers hash
     /// them, and look them up; then one enters those that weren't found. For each line that isn't
-    /// there yet the map needs room.
+    /// there yet the map needs room: it is full only where, with all of them, there are more lines
+    /// than it has room for.
     pub fn enter<R: Threads + Sync + Wait>(
         &mut self,
         rt: &R,
@@ -230,6 +232,8 @@ impl Catalog {
             ≡ map Some (lines_in block.now)) }
         ensures map { OnOk result (self.new.handle.map ≡ self.old.handle.map) }
         ensures errors { IfErr result IsNoRoom }
+        ensures full { result ≡ Err fault.FullOfLines
+            → self.old.room < length (with_new_lines self.old.texts (lines_in block.now)) }
     {
         let readers = parted(alloc, &mut self.handle, readers_for(block.len(), workers))?;
         let found = found_by(rt, alloc, &self.texts, self.hashing, readers, block)?;
@@ -242,9 +246,9 @@ impl Catalog {
             self.hashing,
             block,
             clues.as_slice(),
-        )?;
+        );
         gather(alloc, &mut self.handle, readers)?;
-        Ok(places)
+        places
     }
 }
 
@@ -307,6 +311,7 @@ fn renew(alloc: Global, handle: &mut Handle, shape: Shape) -> Result<(), Program
     requires logs { HaveOneLog handle.old }
     ensures logs { OnOk result (HaveOneLog handle.new) }
     ensures same { OnOk result (held handle.new.seat ≡ held handle.old.seat) }
+    ensures claims { OnOk result (HaveClaimed handle.new) }
     ensures shape { OnOk result (handle.new.map.chain.shape ≡ shape) }
     ensures full { result ≡ Err fault.FullOfLines
         → HasTooMany shape handle.old ⊎ (IsWhole handle.old → ⊥) }
@@ -382,8 +387,10 @@ fn enter_lines<R: Wait>(
 ) -> Result<Vec<usize>, ProgramFault>
     requires { AreCluesTo hashing texts.old (lines_in block.now) clues.now }
     ensures rest { KeepsRest handle.old handle.new }
-    ensures entered { OnOk result (HasEntered (key_for hashing) handle.old.seat handle.new.seat
-        texts.old texts.new (lines_in block.now)) }
+    ensures entered { OnOk result (HasEntered handle.old.map.chain.shape (key_for hashing)
+        handle.old.seat handle.new.seat texts.old texts.new (lines_in block.now)) }
+    ensures full { result ≡ Err fault.FullOfLines → HasStopped handle.old.map.chain.shape
+        (key_for hashing) handle.old.seat handle.new.seat texts.old (lines_in block.now) }
     ensures places { IfOk result (λ places. map (slice_get texts.new) places.items
         ≡ map Some (lines_in block.now)) }
     ensures errors { IfErr result IsNoRoom }
@@ -411,8 +418,10 @@ fn enter_by<R: Wait>(
 ) -> Result<usize, ProgramFault>
     requires { IsClueTo hashing texts.old line.now clue }
     ensures rest { KeepsRest handle.old handle.new }
-    ensures entered { OnOk result (HasEntered (key_for hashing) handle.old.seat handle.new.seat
-        texts.old texts.new (line.now ∷ [])) }
+    ensures entered { OnOk result (HasEntered handle.old.map.chain.shape (key_for hashing)
+        handle.old.seat handle.new.seat texts.old texts.new (line.now ∷ [])) }
+    ensures full { result ≡ Err fault.FullOfLines → HasStopped handle.old.map.chain.shape
+        (key_for hashing) handle.old.seat handle.new.seat texts.old (line.now ∷ []) }
     ensures grown { OnOk result ((more : List (List ℕ)) × (texts.new ≡ texts.old ++ more)) }
     ensures placed { IfOk result (λ place. slice_get texts.new place ≡ Some line.now) }
     ensures errors { IfErr result IsNoRoom }
@@ -435,8 +444,10 @@ fn enter_line<R: Wait>(
 ) -> Result<usize, ProgramFault>
     requires { hash ≡ hash_of hashing line.now }
     ensures rest { KeepsRest handle.old handle.new }
-    ensures entered { OnOk result (HasEntered (key_for hashing) handle.old.seat handle.new.seat
-        texts.old texts.new (line.now ∷ [])) }
+    ensures entered { OnOk result (HasEntered handle.old.map.chain.shape (key_for hashing)
+        handle.old.seat handle.new.seat texts.old texts.new (line.now ∷ [])) }
+    ensures full { result ≡ Err fault.FullOfLines → HasStopped handle.old.map.chain.shape
+        (key_for hashing) handle.old.seat handle.new.seat texts.old (line.now ∷ []) }
     ensures grown { OnOk result ((more : List (List ℕ)) × (texts.new ≡ texts.old ++ more)) }
     ensures placed { IfOk result (λ place. slice_get texts.new place ≡ Some line.now) }
     ensures errors { IfErr result IsNoRoom }
@@ -471,8 +482,10 @@ fn put<R: Wait>(
     ensures rest { KeepsRest handle.old handle.new }
     ensures found { IfOk result (HasFound (put_if_absent_of key number)
         handle.old.seat handle.new.seat) }
-    ensures full { OnErr result (IsCrowded handle.old.map.chain.shape handle.new.seat.chain.seen
-        key) }
+    ensures claims { HasClaimedBy handle.old.map.chain.shape
+        (put_if_absent_of key number ∷ []) handle.old.seat handle.new.seat }
+    ensures full { OnErr result (HasLogged handle.old.seat handle.new.seat []
+        × IsCrowded handle.old.map.chain.shape handle.new.seat.chain.seen key) }
     ensures errors { IsOkUnless result fault.FullOfLines }
 {
     match handle.put_if_absent(rt, key, number) {

@@ -1,12 +1,12 @@
 //! How often each line comes.
 ghost use Rattle.std.specs.Bool.{OnFalse, OnTrue};
-ghost use Rattle.std.specs.Prelude.{◌≡◌, ◌+◌, ◌<◌, ◌≤◌, ◌++◌, ◌==◌, ◌⊎◌, ℕ, List, [], IfErr, IfOk, IsOkUnless, OnOk, count_by, length, min, slice_index};
+ghost use Rattle.std.specs.Prelude.{◌≡◌, ◌+◌, ◌^◌, ◌<◌, ◌≤◌, ◌++◌, ◌==◌, ◌⊎◌, ℕ, Contains, List, [], IfErr, IfOk, IsOkUnless, OnErr, OnOk, count_by, length, min, slice_index};
 ghost use Rattle.nb_core.specs.declared.shapes.TheConstants.{MOST_KEYS};
 ghost use Rattle.nb_lines.specs.declared.faults.ProgramFault.TheVariants as fault;
 ghost use Rattle.nb_texts.specs.Catalogs.{CannotRenew, IsNoRoom};
 ghost use Rattle.nb_texts.specs.Lines.{lines_in, with_new_lines};
 ghost use Rattle.nb_texts.specs.Memory.{lines_with};
-ghost use Rattle.nb_texts.specs.Tallies.{IsTally};
+ghost use Rattle.nb_texts.specs.Tallies.{ComesTooOften, IsTally};
 
 use crate::catalog::Catalog;
 use crate::memory::{Load, MemoryLimit};
@@ -92,7 +92,7 @@ impl LineTally {
     }
 
     /// Enters the lines of a block, counts them, and answers how many there are. Several workers hash
-    /// them. For each line that isn't there yet the catalog needs room.
+    /// them. For each line that isn't there yet the catalog needs room: [`Catalog::enter`].
     pub fn enter<R: Threads + Sync + Wait>(
         &mut self,
         rt: &R,
@@ -111,6 +111,11 @@ impl LineTally {
             → IsTally (lines ++ lines_in block.now) self.new.catalog.texts
             self.new.counts.items) }
         ensures errors { IfErr result (λ told. IsNoRoom told ⊎ (told ≡ fault.TooOften)) }
+        ensures full { result ≡ Err fault.FullOfLines → self.old.catalog.room
+            < length (with_new_lines self.old.catalog.texts (lines_in block.now)) }
+        ensures often { result ≡ Err fault.TooOften → (lines : List (List ℕ))
+            → IsTally lines self.old.catalog.texts self.old.counts.items
+            → ComesTooOften lines (lines_in block.now) }
     {
         let places = self.catalog.enter(rt, alloc, block, workers)?;
         let many = self.catalog.len();
@@ -120,21 +125,21 @@ impl LineTally {
     }
 }
 
-/// Makes counts so many, of which those that are new are 0.
+/// Makes counts so many, of which those that are new are 0. There must not be more.
 fn pad(counts: &mut Vec<u64>, many: usize) -> Result<(), ProgramFault>
     ensures many { OnOk result (length counts.new.items ≡ many) }
     ensures same { OnOk result ((q : ℕ)
         → slice_index counts.new.items q ≡ slice_index counts.old.items q) }
-    ensures errors { IfErr result (λ told. IsNoRoom told ⊎ (told ≡ fault.TooOften)) }
+    ensures errors { IfErr result (λ told. (told ≡ fault.OutOfMemory) ⊎ (told ≡ fault.TooOften)) }
+    ensures long { result ≡ Err fault.TooOften → many < length counts.old.items }
 {
-    for _ in counts.len()..many {
+    if counts.len() > many {
+        return Err(ProgramFault::TooOften);
+    }
+    while counts.len() < many {
         counts.push(0)?;
     }
-    if counts.len() == many {
-        Ok(())
-    } else {
-        Err(ProgramFault::TooOften)
-    }
+    Ok(())
 }
 
 /// Counts each of these places once.
@@ -144,6 +149,8 @@ fn count(counts: &mut Vec<u64>, places: &[usize]) -> Result<(), ProgramFault>
         → slice_index counts.new.items q
         ≡ slice_index counts.old.items q + count_by (λ place. place == q) places.now) }
     ensures errors { IsOkUnless result fault.TooOften }
+    ensures often { OnErr result ((q : ℕ) × Contains places.now q × (q < length counts.old.items
+        → 2 ^ 64 ≤ slice_index counts.old.items q + count_by (λ place. place == q) places.now)) }
 {
     for place in places {
         if *place >= counts.len() {

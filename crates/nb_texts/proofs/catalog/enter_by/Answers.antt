@@ -9,8 +9,8 @@ pub returns-in-Place-clause-entered : goal.returns-in-Place-clause-entered
 returns-in-Place-clause-entered g c =
     let at : slice_get c.args.texts.now c.in-Place.place ≡ Some c.args.line.now
     = subst (IsClueTo c.args.hashing c.args.texts.now c.args.line.now) c.in-Place.is c.requires in
-    entered-known (key_for c.args.hashing) c.args.handle.now.map c.args.handle.now.seat
-    c.args.texts.now c.args.line.now c.in-Place.place c.known.ensures.own at
+    entered-known c.args.handle.now.map.chain.shape (key_for c.args.hashing) c.args.handle.now.map
+    c.args.handle.now.seat c.args.texts.now c.args.line.now c.in-Place.place c.known.ensures.own at
 
 pub returns-in-Place-clause-grown : goal.returns-in-Place-clause-grown
 returns-in-Place-clause-grown g c = ([], sym (append-nil c.args.texts.now))

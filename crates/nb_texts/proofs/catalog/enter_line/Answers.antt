@@ -1,8 +1,12 @@
-use Rattle.std.proofs.Common.{◌≡◌, ◌≢◌, ◌∙◌, [], ◌∷◌, ◌++◌, None, Option, Some, ap, append-nil, length, refl, subst, subst₂, sym, ℕ}
+use Rattle.std.proofs.Common.{◌≡◌, ◌≢◌, ◌∙◌, arith, [], ◌∷◌, ◌++◌, None, Option, Some, ap, append-nil, length, refl, subst, subst₂, sym, ℕ}
 use Rattle.std.specs.Prelude.{slice_get}
+use Rattle.nb_core.specs.Meaning.{IsCrowded}
 use Rattle.nb_map.specs.Logs.{HasFound}
+use Rattle.nb_map.specs.Maps.{MapOf}
 use Rattle.nb_map.specs.NamedCalls.{put_if_absent_of}
 use Rattle.nb_texts.proofs.FindingLemmas.{entered-found, entered-new, get-last, tried-more, tried-none}
+use Rattle.nb_texts.proofs.FullLemmas.{all-tried, stopped-full, stopped-many}
+use Rattle.nb_texts.specs.Claims.{HasClaimedBy}
 use Rattle.nb_texts.specs.Entering.{HasEntered}
 use Rattle.nb_texts.specs.Hashes.{key_after, key_for}
 use Rattle.nb_texts.proofs.catalog.enter_line.Goals as goal
@@ -11,8 +15,9 @@ pub loop-tries-init : goal.loop-tries-init
 loop-tries-init g c = (
   record { map = refl; reserve = refl },
   refl,
-  tried-none (key_for c.args.hashing c.args.line.now) c.args.handle.now.map c.args.handle.now.seat
-      c.args.texts.now c.args.line.now c.known.ensures.own,
+  tried-none c.args.handle.now.map.chain.shape (key_for c.args.hashing c.args.line.now)
+      c.args.handle.now.map c.args.handle.now.seat c.args.texts.now c.args.line.now
+      c.known.ensures.own,
 )
 
 pub returns-in-None-clause-entered : goal.returns-in-None-clause-entered
@@ -26,12 +31,17 @@ returns-in-None-clause-entered g c =
     let found : P (keys line now.tries) None
     = subst₂ P (c.key_after.ensures ∙ ap (λ hash. key_after hash now.tries) c.requires) c.in-None.is
     c.in_ok-put.ensures.found in
+    let claims = subst₂ (λ (m : MapOf) key. HasClaimedBy m.chain.shape
+    (put_if_absent_of key c.in_ok-number.number ∷ []) now.handle.seat c.put.new.handle.seat)
+    now.invariant.0.map (c.key_after.ensures ∙ ap (λ hash. key_after hash now.tries) c.requires)
+    c.in_ok-put.ensures.claims in
     let last : c.in_ok-number.number ≡ length texts = c.in_ok-number.ensures.same ∙ c.len-place.ensures in
     let pushed : texts ++ line ∷ [] ≡ c.push.new.self
     = ap (λ texts. texts ++ line ∷ []) (sym now.invariant.1) ∙ sym c.in_ok-push-in-None.ensures.put in
-    subst (λ texts'. HasEntered keys c.args.handle.now.seat c.put.new.handle.seat texts texts' (line ∷ []))
-    pushed (entered-new keys c.args.handle.now.seat now.handle.seat c.put.new.handle.seat texts line
-    now.tries c.in_ok-number.number now.invariant.2 found last)
+    let p = c.args.handle.now.map.chain.shape in
+    subst (λ texts'. HasEntered p keys c.args.handle.now.seat c.put.new.handle.seat texts texts' (line ∷ []))
+    pushed (entered-new p keys c.args.handle.now.seat now.handle.seat c.put.new.handle.seat texts line
+    now.tries c.in_ok-number.number now.invariant.2 claims found last)
 
 pub returns-in-None-clause-placed : goal.returns-in-None-clause-placed
 returns-in-None-clause-placed g c =
@@ -55,9 +65,14 @@ returns-then-is_at-clause-entered g c =
     let at : slice_get texts c.get-found.result ≡ Some line
     = ap (λ texts. slice_get texts c.get-found.result) (sym now.invariant.1)
     ∙ c.is_at.ensures.0 c.if-is_at.true in
-    subst (λ texts'. HasEntered keys c.args.handle.now.seat c.put.new.handle.seat texts texts' (line ∷ []))
-    (sym now.invariant.1) (entered-found keys c.args.handle.now.seat now.handle.seat
-    c.put.new.handle.seat texts line now.tries c.in_ok-number.number now.invariant.2
+    let claims = subst₂ (λ (m : MapOf) key. HasClaimedBy m.chain.shape
+    (put_if_absent_of key c.in_ok-number.number ∷ []) now.handle.seat c.put.new.handle.seat)
+    now.invariant.0.map (c.key_after.ensures ∙ ap (λ hash. key_after hash now.tries) c.requires)
+    c.in_ok-put.ensures.claims in
+    let p = c.args.handle.now.map.chain.shape in
+    subst (λ texts'. HasEntered p keys c.args.handle.now.seat c.put.new.handle.seat texts texts' (line ∷ []))
+    (sym now.invariant.1) (entered-found p keys c.args.handle.now.seat now.handle.seat
+    c.put.new.handle.seat texts line now.tries c.in_ok-number.number now.invariant.2 claims
     c.get-found.result found at)
 
 pub loop-tries-preserved : goal.loop-tries-preserved
@@ -76,14 +91,19 @@ loop-tries-preserved g c =
     let yes = c.is_at.ensures.1 (ap (λ texts. slice_get texts c.get-found.result) now.invariant.1 ∙ at) in
     let not_so = c.if-is_at.false in
     cc in
+    let claims = subst₂ (λ (m : MapOf) key. HasClaimedBy m.chain.shape
+    (put_if_absent_of key c.in_ok-number.number ∷ []) now.handle.seat c.put.new.handle.seat)
+    now.invariant.0.map (c.key_after.ensures ∙ ap (λ hash. key_after hash now.tries) c.requires)
+    c.in_ok-put.ensures.claims in
     let rest = c.in_ok-put.ensures.rest in (
       record {
         map = rest.map ∙ now.invariant.0.map;
         reserve = rest.reserve ∙ now.invariant.0.reserve;
       },
       now.invariant.1,
-      tried-more (keys line) c.args.handle.now.seat now.handle.seat c.put.new.handle.seat texts line
-          now.tries c.in_ok-number.number now.invariant.2 c.get-found.result found other,
+      tried-more c.args.handle.now.map.chain.shape (keys line) c.args.handle.now.seat now.handle.seat
+          c.put.new.handle.seat texts line now.tries c.in_ok-number.number now.invariant.2 claims
+          c.get-found.result found other,
     )
 
 pub returns-in-None-clause-grown : goal.returns-in-None-clause-grown
@@ -96,3 +116,48 @@ returns-in-None-clause-grown g c = (
 pub returns-then-is_at-clause-grown : goal.returns-then-is_at-clause-grown
 returns-then-is_at-clause-grown g c =
     ([], c.loop-tries.invariant.1 ∙ sym (append-nil c.args.texts.now))
+
+pub returns-in_err-number-clause-full : goal.returns-in_err-number-clause-full
+returns-in_err-number-clause-full g c = λ is.
+    let p = c.args.handle.now.map.chain.shape in
+    let keys = key_for c.args.hashing in
+    let seat = c.args.handle.now.seat in
+    let texts = c.args.texts.now in
+    let line = c.args.line.now in
+    let tried = tried-none p (keys line) c.args.handle.now.map seat texts line c.known.ensures.own in
+    stopped-many p keys seat seat texts line 0 tried
+    (λ m replayed index. omega (arith, c.in_err-number.ensures.full, c.len-place.ensures))
+
+pub returns-in_err-put-clause-full : goal.returns-in_err-put-clause-full
+returns-in_err-put-clause-full g c = λ is.
+    let now = c.loop-tries in
+    let keys = key_for c.args.hashing in
+    let same = now.invariant.0.map in
+    let key : c.key_after.result ≡ keys c.args.line.now now.tries
+    = c.key_after.ensures ∙ ap (λ hash. key_after hash now.tries) c.requires in
+    let told = c.in_err-put.ensures in
+    stopped-full c.args.handle.now.map.chain.shape keys c.args.handle.now.seat now.handle.seat
+    c.args.texts.now c.args.line.now now.tries now.invariant.2 c.put.new.handle.seat
+    (record {
+      number = c.in_ok-number.number;
+      logged = told.full.0;
+      claims =
+          subst₂ (λ (m : MapOf) key. HasClaimedBy m.chain.shape
+          (put_if_absent_of key c.in_ok-number.number ∷ []) now.handle.seat c.put.new.handle.seat)
+          same key told.claims;
+      crowded =
+          subst₂ (λ (m : MapOf) key. IsCrowded m.chain.shape c.put.new.handle.seat.chain.seen key)
+          same key told.full.1;
+    })
+
+pub returns-clause-full : goal.returns-clause-full
+returns-clause-full g c = λ is.
+    let now = c.loop-tries in
+    let p = c.args.handle.now.map.chain.shape in
+    let before = c.args.handle.now.seat in
+    let texts = c.args.texts.now in
+    let line = c.args.line.now in
+    stopped-many p (key_for c.args.hashing) before now.handle.seat texts line now.tries
+    now.invariant.2
+    (all-tried p c.args.hashing before now.handle.seat texts line now.tries now.invariant.2
+    (omega (arith, c.loop-tries-test.false)))

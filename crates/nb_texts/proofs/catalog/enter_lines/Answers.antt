@@ -1,18 +1,21 @@
-use Rattle.std.proofs.Common.{◌≡◌, ◌∙◌, ◌+◌, ap, drop, map, refl, subst}
+use Rattle.std.proofs.Common.{◌≡◌, ◌∙◌, ◌+◌, Err, [], ◌∷◌, ap, arith, drop, map, refl, rules, subst}
 use Rattle.std.specs.Prelude.{Some, slice_get, slice_index_or}
+use Rattle.std.proofs.lemmas.Grind.{common_steps}
 use Rattle.std.proofs.lemmas.List.{drop_all, drop_more}
-use Rattle.nb_texts.specs.Entering.{HasEntered}
+use Rattle.nb_lines.specs.declared.faults.ProgramFault.TheVariants as fault
+use Rattle.nb_map.specs.Maps.{MapOf}
+use Rattle.nb_texts.specs.Entering.{HasEntered, HasStopped}
 use Rattle.nb_texts.specs.Hashes.{key_for}
 use Rattle.nb_texts.specs.Lines.{lines_in}
 use Rattle.nb_texts.specs.declared.clues.Clue.TheVariants.{Place}
-use Rattle.nb_texts.proofs.ClueLemmas.{clue-now, entering-begun, entering-done, entering-more, some-left}
+use Rattle.nb_texts.proofs.ClueLemmas.{clue-now, entering-begun, entering-done, entering-more, entering-stopped, some-left}
 use Rattle.nb_texts.proofs.catalog.enter_lines.Goals as goal
 
 pub loop-clue-init : goal.loop-clue-init
 loop-clue-init g c = record {
   kept = record { map = refl; reserve = refl };
   so_far =
-      entering-begun c.args.hashing c.args.handle.now.map c.args.handle.now.seat c.args.texts.now
+      entering-begun c.args.handle.now.map.chain.shape c.args.hashing c.args.handle.now.map c.args.handle.now.seat c.args.texts.now
       (lines_in c.args.block.now) c.args.clues.now c.in_ok-places.places.items c.known.ensures.own
       c.requires c.in_ok-places.ensures.items;
 }
@@ -26,10 +29,10 @@ returns-clause-entered g c =
     let lines = lines_in c.args.block.now in
     let so_far = now.invariant.so_far in
     let all : so_far.done ≡ lines
-    = entering-done hashing before now.handle.seat texts now.texts lines (lines_in now.rest.now)
+    = entering-done c.args.handle.now.map.chain.shape hashing before now.handle.seat texts now.texts lines (lines_in now.rest.now)
     (drop now.clue-index c.args.clues.now) now.places.items so_far
     (drop_all now.clue-index c.args.clues.now c.loop-clue-test.false) in
-    subst (HasEntered (key_for hashing) before now.handle.seat texts now.texts) all so_far.entered
+    subst (HasEntered c.args.handle.now.map.chain.shape (key_for hashing) before now.handle.seat texts now.texts) all so_far.entered
 
 pub returns-clause-places : goal.returns-clause-places
 returns-clause-places g c =
@@ -40,7 +43,7 @@ returns-clause-places g c =
     let lines = lines_in c.args.block.now in
     let so_far = now.invariant.so_far in
     let all : so_far.done ≡ lines
-    = entering-done hashing before now.handle.seat texts now.texts lines (lines_in now.rest.now)
+    = entering-done c.args.handle.now.map.chain.shape hashing before now.handle.seat texts now.texts lines (lines_in now.rest.now)
     (drop now.clue-index c.args.clues.now) now.places.items so_far
     (drop_all now.clue-index c.args.clues.now c.loop-clue-test.false) in
     subst (λ lines. map (slice_get now.texts) now.places.items ≡ map Some lines) all so_far.placed
@@ -51,7 +54,7 @@ split_line-requires g c =
     let clues = c.args.clues.now in
     record {
       some = λ none.
-          some-left c.args.hashing c.args.handle.now.seat now.handle.seat c.args.texts.now now.texts
+          some-left c.args.handle.now.map.chain.shape c.args.hashing c.args.handle.now.seat now.handle.seat c.args.texts.now now.texts
           (lines_in c.args.block.now) (lines_in now.rest.now) (drop now.clue-index clues)
           now.places.items now.invariant.so_far (slice_index_or clues now.clue-index (Place 0))
           (drop (now.clue-index + 1) clues)
@@ -62,7 +65,7 @@ pub enter_by-requires : goal.enter_by-requires
 enter_by-requires g c =
     let now = c.loop-clue in
     let clues = c.args.clues.now in
-    clue-now c.args.hashing c.args.handle.now.seat now.handle.seat c.args.texts.now now.texts
+    clue-now c.args.handle.now.map.chain.shape c.args.hashing c.args.handle.now.seat now.handle.seat c.args.texts.now now.texts
     (lines_in c.args.block.now) (lines_in now.rest.now) (drop now.clue-index clues) now.places.items
     now.invariant.so_far (slice_index_or clues now.clue-index (Place 0))
     (drop (now.clue-index + 1) clues) c.split_line.result.0.now (lines_in c.split_line.result.1.now)
@@ -79,13 +82,34 @@ loop-clue-preserved g c =
         reserve = kept.reserve ∙ now.invariant.kept.reserve;
       };
       so_far =
-          entering-more c.args.hashing c.args.handle.now.seat now.handle.seat c.args.texts.now
+          entering-more c.args.handle.now.map.chain.shape c.args.hashing c.args.handle.now.seat now.handle.seat c.args.texts.now
           now.texts (lines_in c.args.block.now) (lines_in now.rest.now) (drop now.clue-index clues)
           now.places.items now.invariant.so_far (slice_index_or clues now.clue-index (Place 0))
           (drop (now.clue-index + 1) clues) c.split_line.result.0.now
           (lines_in c.split_line.result.1.now) c.enter_by.new.handle.seat c.enter_by.new.texts
           c.in_ok-place.ensures.grown.0 c.push.new.self.items c.in_ok-place.place
           (drop_more clues now.clue-index (Place 0) c.loop-clue-test.true) c.split_line.ensures.line
-          c.in_ok-place.ensures.entered c.in_ok-place.ensures.grown.1 c.in_ok-place.ensures.placed
+          (subst (λ (m : MapOf). HasEntered m.chain.shape (key_for c.args.hashing) now.handle.seat
+          c.enter_by.new.handle.seat now.texts c.enter_by.new.texts (c.split_line.result.0.now ∷ []))
+          now.invariant.kept.map c.in_ok-place.ensures.entered)
+          c.in_ok-place.ensures.grown.1 c.in_ok-place.ensures.placed
           c.in_ok-push.ensures.items;
     }
+
+pub returns-in_err-place-clause-full : goal.returns-in_err-place-clause-full
+returns-in_err-place-clause-full g c =
+    let now = c.loop-clue in
+    let p = c.args.handle.now.map.chain.shape in
+    let keys = key_for c.args.hashing in
+    let line = c.split_line.result.0.now in
+    let left = lines_in c.split_line.result.1.now in
+    let after = c.enter_by.new.handle.seat in
+    let told : c.from_residual-in_err-place.result ≡ Err fault.FullOfLines
+    → HasStopped now.handle.map.chain.shape keys now.handle.seat after now.texts (line ∷ [])
+    = first_of (search rules, grind (arith, common_steps)) in
+    λ is. entering-stopped p c.args.hashing c.args.handle.now.seat now.handle.seat c.args.texts.now
+    now.texts (lines_in c.args.block.now) (lines_in now.rest.now)
+    (drop now.clue-index c.args.clues.now) now.places.items now.invariant.so_far line left after
+    c.split_line.ensures.line
+    (subst (λ (m : MapOf). HasStopped m.chain.shape keys now.handle.seat after now.texts (line ∷ []))
+    now.invariant.kept.map (told is))

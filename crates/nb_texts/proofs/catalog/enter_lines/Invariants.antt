@@ -8,6 +8,6 @@ abbrev pub invariant-loop-clue : goal.invariant-loop-clue
 invariant-loop-clue g l = record {
   kept : KeepsRest l.fn.handle l.handle;
   so_far :
-      HasEnteredSoFar l.hashing l.fn.handle.seat l.handle.seat l.fn.texts l.texts (lines_in l.fn.block)
-      (lines_in l.rest) (drop l.clue-index l.clues) l.places.items;
+      HasEnteredSoFar l.fn.handle.map.chain.shape l.hashing l.fn.handle.seat l.handle.seat l.fn.texts
+      l.texts (lines_in l.fn.block) (lines_in l.rest) (drop l.clue-index l.clues) l.places.items;
 }

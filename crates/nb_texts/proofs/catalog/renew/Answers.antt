@@ -1,4 +1,4 @@
-use Rattle.nb_texts.proofs.RestLemmas.{one-log, renewed-same}
+use Rattle.nb_texts.proofs.RestLemmas.{one-log, renewed-claims, renewed-same}
 use Rattle.nb_texts.proofs.catalog.renew.Goals as goal
 
 pub returns-in-Ok-clause-logs : goal.returns-in-Ok-clause-logs
@@ -14,3 +14,7 @@ returns-in-Ok-clause-same c =
 
 pub returns-in-Ok-clause-shape : goal.returns-in-Ok-clause-shape
 returns-in-Ok-clause-shape c = c.in-Ok.ensures.renewed.begun.made.shape
+
+pub returns-in-Ok-clause-claims : goal.returns-in-Ok-clause-claims
+returns-in-Ok-clause-claims c =
+    renewed-claims c.args.shape c.args.handle.now c.renew.new.self c.in-Ok.ensures.renewed

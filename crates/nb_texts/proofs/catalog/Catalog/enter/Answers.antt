@@ -1,8 +1,13 @@
-use Rattle.std.proofs.Common.{◌≡◌, ◌∙◌, subst, sym}
+use Rattle.std.proofs.Common.{◌≡◌, ◌∙◌, All, refl, subst, sym}
+use Rattle.std.proofs.lemmas.Result.{on_ok_weaker}
 use Rattle.nb_core.specs.Plans.{HasRoomFor}
+use Rattle.nb_map.specs.Handles.{seats_of}
 use Rattle.nb_map.specs.Maps.{MapOf}
+use Rattle.nb_map.specs.OneSeat.{held}
 use Rattle.nb_texts.proofs.ClueLemmas.{readers-of}
-use Rattle.nb_texts.proofs.RestLemmas.{entered-gathered}
+use Rattle.nb_texts.proofs.RestLemmas.{entered-gathered, gathered-claims, gathered-from, stopped-gathered}
+use Rattle.nb_texts.specs.Claims.{ClaimsOnly}
+use Rattle.nb_texts.specs.Entering.{HasEntered, HasStopped}
 use Rattle.nb_texts.specs.Hashes.{key_for}
 use Rattle.nb_texts.specs.Lines.{lines_in}
 use Rattle.nb_texts.proofs.catalog.Catalog.enter.Goals as goal
@@ -10,43 +15,94 @@ use Rattle.nb_texts.proofs.catalog.Catalog.enter.Goals as goal
 pub gather-requires : goal.gather-requires
 gather-requires g c = record {
   one =
-      readers-of c.args.self.now.handle c.parted.new.handle c.enter_lines.new.handle
+      readers-of c.args.self.now.handle c.parted.new.handle c.enter_lines-places.new.handle
       c.in_ok-readers.readers.items c.in_ok-found.found.readers.items
       c.in_ok-readers.ensures.parted c.in_ok-found.ensures.looked
-      (c.in_ok-places.ensures.rest.map ∙ c.parted.ensures.same.0);
+      (c.enter_lines-places.ensures.rest.map ∙ c.parted.ensures.same.0);
 }
 
 pub returns-clause-rest : goal.returns-clause-rest
 returns-clause-rest g c =
     let before = c.args.self.now in
+    let at_rest = c.requires.rest in
+    let parted = c.parted.new.handle in
+    let after = c.enter_lines-places.new.handle in
     let last = c.gather.new.handle in
+    let keys = key_for before.hashing in
+    let texts' = c.enter_lines-places.new.texts in
+    let lines = lines_in c.args.block.now in
     let settled = c.in_ok-gather.ensures.settled in
-    let done = entered-gathered (key_for before.hashing) before.handle c.parted.new.handle
-    c.enter_lines.new.handle last before.texts c.enter_lines.new.texts
-    (lines_in c.args.block.now) c.in_ok-readers.readers.items c.in_ok-found.found.readers.items
-    settled.0 c.enter_lines.new.handle.map c.requires.rest.logs c.parted.ensures.same.1
-    c.in_ok-readers.ensures.parted c.in_ok-found.ensures.looked c.in_ok-places.ensures.rest
-    c.in_ok-places.ensures.entered settled.1 c.requires.rest.index in
+    let kept = c.enter_lines-places.ensures.rest in
     let same : last.map ≡ before.handle.map
-    = c.in_ok-gather.ensures.map ∙ c.in_ok-places.ensures.rest.map ∙ c.parted.ensures.same.0 in
+    = c.in_ok-gather.ensures.map ∙ kept.map ∙ c.parted.ensures.same.0 in
+    on_ok_weaker c.enter_lines-places.result (λ entering.
+    let entered = subst (λ (m : MapOf). HasEntered m.chain.shape keys parted.seat after.seat
+    before.texts texts' lines) c.parted.ensures.same.0 entering in
+    let done = gathered-from before.handle parted after last c.in_ok-readers.readers.items
+    c.in_ok-found.found.readers.items settled.0 entered.made c.parted.ensures.same
+    c.in_ok-readers.ensures.parted c.in_ok-found.ensures.looked kept entered.logged settled.1 in
+    let all = entered-gathered keys before.handle last before.texts texts' lines at_rest.logs
+    parted.seat after.seat entered done at_rest.index in
+    let claims = gathered-claims entered.made before.handle last at_rest.logs done entered.puts
+    entered.claims at_rest.claims in
     record {
-      logs = done.0;
-      index = done.1;
-      room = subst (λ (m : MapOf). HasRoomFor m.chain.shape before.room) (sym same) c.requires.rest.room;
-    }
+      logs = all.0;
+      index = all.1;
+      claims =
+          subst (λ (m : MapOf). All (ClaimsOnly m.chain.shape (held last.seat)) (seats_of last))
+          (sym same) claims;
+      room =
+          subst (λ (m : MapOf). HasRoomFor m.chain.shape before.room) (sym same) at_rest.room;
+      most = at_rest.most;
+    }) c.enter_lines-places.ensures.entered
 
 pub returns-clause-lines : goal.returns-clause-lines
 returns-clause-lines g c =
     let before = c.args.self.now in
+    let at_rest = c.requires.rest in
+    let parted = c.parted.new.handle in
+    let after = c.enter_lines-places.new.handle in
+    let last = c.gather.new.handle in
+    let keys = key_for before.hashing in
+    let texts' = c.enter_lines-places.new.texts in
+    let lines = lines_in c.args.block.now in
     let settled = c.in_ok-gather.ensures.settled in
-    let done = entered-gathered (key_for before.hashing) before.handle c.parted.new.handle
-    c.enter_lines.new.handle c.gather.new.handle before.texts c.enter_lines.new.texts
-    (lines_in c.args.block.now) c.in_ok-readers.readers.items c.in_ok-found.found.readers.items
-    settled.0 c.enter_lines.new.handle.map c.requires.rest.logs c.parted.ensures.same.1
-    c.in_ok-readers.ensures.parted c.in_ok-found.ensures.looked c.in_ok-places.ensures.rest
-    c.in_ok-places.ensures.entered settled.1 c.requires.rest.index in
-    done.2
+    on_ok_weaker c.enter_lines-places.result (λ entering.
+    let entered = subst (λ (m : MapOf). HasEntered m.chain.shape keys parted.seat after.seat
+    before.texts texts' lines) c.parted.ensures.same.0 entering in
+    let done = gathered-from before.handle parted after last c.in_ok-readers.readers.items
+    c.in_ok-found.found.readers.items settled.0 entered.made c.parted.ensures.same
+    c.in_ok-readers.ensures.parted c.in_ok-found.ensures.looked c.enter_lines-places.ensures.rest
+    entered.logged settled.1 in
+    let all = entered-gathered keys before.handle last before.texts texts' lines at_rest.logs
+    parted.seat after.seat entered done at_rest.index in
+    all.2) c.enter_lines-places.ensures.entered
 
 pub returns-clause-map : goal.returns-clause-map
 returns-clause-map g c =
-    c.in_ok-gather.ensures.map ∙ c.in_ok-places.ensures.rest.map ∙ c.parted.ensures.same.0
+    on_ok_weaker c.enter_lines-places.result (λ entered.
+    c.in_ok-gather.ensures.map ∙ c.enter_lines-places.ensures.rest.map ∙ c.parted.ensures.same.0)
+    c.enter_lines-places.ensures.entered
+
+pub returns-clause-full : goal.returns-clause-full
+returns-clause-full g c = λ is.
+    let before = c.args.self.now in
+    let at_rest = c.requires.rest in
+    let parted = c.parted.new.handle in
+    let after = c.enter_lines-places.new.handle in
+    let last = c.gather.new.handle in
+    let keys = key_for before.hashing in
+    let lines = lines_in c.args.block.now in
+    let settled = c.in_ok-gather.ensures.settled in
+    let stopped = subst (λ (m : MapOf). HasStopped m.chain.shape keys parted.seat after.seat
+    before.texts lines) c.parted.ensures.same.0 (c.enter_lines-places.ensures.full is) in
+    stopped-gathered keys before.handle last before.texts lines before.room at_rest.logs parted.seat
+    after.seat stopped
+    (λ made logged. (
+      gathered-from before.handle parted after last c.in_ok-readers.readers.items
+          c.in_ok-found.found.readers.items settled.0 made c.parted.ensures.same
+          c.in_ok-readers.ensures.parted c.in_ok-found.ensures.looked
+          c.enter_lines-places.ensures.rest logged settled.1,
+      refl,
+      refl,
+    )) at_rest.index at_rest.claims at_rest.room at_rest.most
