@@ -106,9 +106,12 @@ stopped-then p keys before between after texts texts' lines more left first stop
       (sym (after-append stopped.entered.made first.made m)) ∙ none);
   full = elim stopped.full [
     | inl none ↦ inl none
-    | inr many ↦ inr (many.0, λ m replayed index.
-        let parts = replayed-parts stopped.entered.made first.made m replayed in
-        let one = first.told m parts.1 index in
-        many.1 (map_after_calls first.made m) parts.0 one.0)
+    | inr many ↦ inr (
+      many.0,
+      λ m replayed index.
+          let parts = replayed-parts stopped.entered.made first.made m replayed in
+          let one = first.told m parts.1 index in
+          many.1 (map_after_calls first.made m) parts.0 one.0,
+    )
   ];
 }

@@ -1,10 +1,10 @@
 -- How often each line comes, counted by the places of lines.
-use Rattle.std.proofs.Common.{◌≡◌, ◌∙◌, ◌+◌, ◌^◌, ◌<◌, ◌≤◌, ◌==◌, ℕ, zero, suc, true, false, cond, List, [], ◌∷◌, ◌++◌, All, Some, ap, ap₂, arith, get_or, inl, inr, length, length-append, map, refl, subst, sym, zero-add}
+use Rattle.std.proofs.Common.{◌≡◌, ◌∙◌, ◌+◌, ◌^◌, ◌<◌, ◌≤◌, ◌==◌, ℕ, zero, suc, Bool, true, false, cond, List, [], ◌∷◌, ◌++◌, All, Some, ap, ap₂, arith, drop, get_or, inl, inr, length, length-append, map, refl, subst, sym, take, zero-add}
 use Rattle.std.specs.Prelude.{Contains, count_by, slice_get, slice_index}
 use Rattle.std.proofs.lemmas.Bool.{cases_Bool, cases_lt, eq-eqb, eqb-true, or_left, or_right}
-use Rattle.std.proofs.lemmas.List.{get_or_default, get_or_past, length-map, same_lists}
-use Rattle.std.proofs.lemmas.List.Elements.{All-cons, All-head, All-nil, All-tail}
-use Rattle.std.proofs.lemmas.List.Sums.{sum_by-cons}
+use Rattle.std.proofs.lemmas.List.{get_or_default, get_or_past, length-map, same_lists, take-append-drop}
+use Rattle.std.proofs.lemmas.List.Elements.{All-cons, All-head, All-nil, All-tail, Contains-get_or}
+use Rattle.std.proofs.lemmas.List.Sums.{count_by_more_yes, sum_by-append, sum_by-cons}
 use Rattle.std.proofs.lemmas.Option.{slice_get_within}
 use Rattle.std.proofs.lemmas.Slice.Eq.{bytes_eq-Decides}
 use Rattle.core.specs.Str.{bytes_eq}
@@ -157,6 +157,27 @@ places-times texts (place ∷ places) (line ∷ lines) q text once at are =
       places-times texts places lines q text once at rest,
       sum_by-cons (λ place. cond (place == q) 1 0) place places,
       sum_by-cons (λ line. cond (bytes_eq text line) 1 0) line lines,
+    )
+
+-- where a place was counted as often as can be, and is there once more, it comes too often
+pub past-count :
+    (counts counts' places : List ℕ) (i : ℕ) → i < length places → length counts' ≡ length counts
+    → ((q : ℕ) → q < length counts'
+    → slice_index counts' q ≡ slice_index counts q + count_by (λ place. place == q) (take i places))
+    → slice_index counts' (get_or places i 0) ≡ 18446744073709551615
+    → (q : ℕ) × Contains places q × (q < length counts
+    → 2 ^ 64 ≤ slice_index counts q + count_by (λ place. place == q) places)
+past-count counts counts' places i less long counted most =
+    let q = get_or places i 0 in
+    let test : ℕ → Bool = λ place. place == q in
+    let one = count_by_more_yes test places i 0 less (eq-eqb q q refl) in
+    let all : count_by test places
+    ≡ count_by test (take (i + 1) places) + count_by test (drop (i + 1) places)
+    = ap (count_by test) (sym (take-append-drop (i + 1) places))
+    ∙ sum_by-append (λ place. cond (test place) 1 0) (take (i + 1) places) (drop (i + 1) places) in (
+      q,
+      Contains-get_or places i 0 less,
+      λ within. omega (arith, counted q (omega (arith, within, long)), one, all, most),
     )
 
 -- ---- a block is counted
