@@ -1,5 +1,5 @@
 -- For which keys the seats of a map claim slots, and how many keys that are.
-use Rattle.std.proofs.Common.{◌≡◌, ◌≢◌, ◌∙◌, ◌==◌, ◌+◌, ◌<◌, ◌≤◌, ◌||◌, not, ℕ, suc, Bool, true, false, cond, eqb, List, [], ◌∷◌, ◌++◌, None, Option, Some, All, ap, ap₂, arith, filter, get_or, inl, inr, is_some, length, map, refl, subst, sym}
+use Rattle.std.proofs.Common.{◌≡◌, ◌≢◌, ◌∙◌, ◌==◌, ◌+◌, ◌<◌, ◌≤◌, ◌||◌, not, ℕ, Bool, true, false, cond, eqb, List, [], ◌∷◌, ◌++◌, None, Option, Some, All, ap, ap₂, arith, filter, get_or, inl, inr, is_some, length, map, refl, subst, sym}
 use Rattle.std.specs.Cmp.{nat_eq_equiv, unsigned_tied}
 use Rattle.std.specs.FinMap.{contains_key-keys, entries, get, len, len-entries}
 use Rattle.std.specs.List.{AllZip, list_any, range_with_len}

@@ -13,7 +13,7 @@ use Rattle.nb_map.specs.Maps.{IsMine, MapOf, SeatOf}
 use Rattle.nb_map.specs.Promises.{HasGot}
 use Rattle.nb_texts.specs.Claims.{HasClaimedBy}
 use Rattle.nb_texts.specs.Clues.{AreCluesTo, AreFound, ArePartedFrom, HasOnlyLooked, IsClueTo}
-use Rattle.nb_texts.specs.Entering.{HasEntered, HasStopped}
+use Rattle.nb_texts.specs.Entering.{HasEntered, HasNoRoomFor}
 use Rattle.nb_texts.specs.Hashes.{key_for}
 use Rattle.nb_texts.specs.declared.clues.Clue.TheVariants.{Hash, Place}
 use Rattle.nb_texts.specs.declared.clues.Clue.{Clue}
@@ -294,10 +294,10 @@ module _
   -- or it finds no room
   pub entering-stopped :
       (line : List ℕ) (left' : List (List ℕ)) (next : SeatOf) → left ≡ line ∷ left'
-      → HasStopped p (key_for hashing) now next texts' (line ∷ [])
-      → HasStopped p (key_for hashing) before next texts lines
+      → HasNoRoomFor p (key_for hashing) now next texts' (line ∷ [])
+      → HasNoRoomFor p (key_for hashing) before next texts lines
   entering-stopped line left' next split stopped =
-      subst (HasStopped p (key_for hashing) before next texts)
+      subst (HasNoRoomFor p (key_for hashing) before next texts)
       (sym (so_far.are ∙ ap (λ left. so_far.done ++ left) split))
       (stopped-then p (key_for hashing) before now next texts texts' so_far.done (line ∷ []) left'
       so_far.entered stopped)

@@ -1,14 +1,14 @@
 -- Lines are entered up to one that finds no room.
-use Rattle.std.proofs.Common.{◌≡◌, ◌≢◌, ◌∙◌, ◌+◌, ◌<◌, ◌≤◌, ◌^◌, ℕ, List, [], ◌∷◌, ◌++◌, ap, append_assoc, arith, inl, inr, length, refl, sym}
+use Rattle.std.proofs.Common.{◌≢◌, ◌∙◌, ◌+◌, ◌<◌, ◌≤◌, ◌^◌, ℕ, List, [], ◌∷◌, ◌++◌, ap, append_assoc, arith, inl, inr, length, refl, sym}
 use Rattle.std.specs.FinMap.{get}
-use Rattle.std.specs.Prelude.{◌%◌, is_some}
+use Rattle.std.specs.Prelude.{is_some}
 use Rattle.std.proofs.lemmas.Bool.{cases_lt}
 use Rattle.nb_core.specs.Log.{Numbers}
 use Rattle.nb_core.specs.Plans.{Plan}
 use Rattle.nb_map.specs.Maps.{SeatOf}
 use Rattle.nb_texts.proofs.ClaimLemmas.{no-more}
 use Rattle.nb_texts.proofs.FindingLemmas.{HasTried, after-append, entered-then, replayed-parts, tried-entered, tried-new}
-use Rattle.nb_texts.specs.Entering.{AreReplayed, HasEntered, HasNoSlot, HasStopped, IsIndex, map_after_calls}
+use Rattle.nb_texts.specs.Entering.{AreReplayed, HasEntered, HasNoSlot, HasNoRoomFor, IsIndex, map_after_calls}
 use Rattle.nb_texts.specs.Hashes.{key_after, key_for}
 use Rattle.nb_texts.specs.declared.hashing.Hashing.{Hashing}
 
@@ -20,7 +20,7 @@ module _
   where
     pub stopped-full :
         (after : SeatOf) → HasNoSlot p (keys text tries) now after
-        → HasStopped p keys before after texts (text ∷ [])
+        → HasNoRoomFor p keys before after texts (text ∷ [])
     unfolding tried-entered
     stopped-full after full = record {
       done = [];
@@ -37,7 +37,7 @@ module _
 
     pub stopped-many :
         ((m : Numbers) → AreReplayed tried.made m → IsIndex keys texts m → 2 ^ 60 ≤ length texts)
-        → HasStopped p keys before now texts (text ∷ [])
+        → HasNoRoomFor p keys before now texts (text ∷ [])
     unfolding tried-entered
     stopped-many many = record {
       done = [];
@@ -81,8 +81,8 @@ pub stopped-then :
     (p : Plan) (keys : List ℕ → ℕ → ℕ) (before between after : SeatOf)
     (texts texts' lines more left : List (List ℕ))
     → HasEntered p keys before between texts texts' lines
-    → HasStopped p keys between after texts' more
-    → HasStopped p keys before after texts (lines ++ (more ++ left))
+    → HasNoRoomFor p keys between after texts' more
+    → HasNoRoomFor p keys before after texts (lines ++ (more ++ left))
 unfolding entered-then
 stopped-then p keys before between after texts texts' lines more left first stopped = record {
   done = lines ++ stopped.done;

@@ -31,7 +31,7 @@ use Rattle.nb_table.specs.Views.{HasSeen}
 use Rattle.nb_texts.specs.Catalogs.{HaveClaimed, HaveOneLog}
 use Rattle.nb_texts.specs.Claims.{ClaimsOnly, HasClaimedBy}
 use Rattle.nb_texts.specs.Clues.{ArePartedFrom, HasOnlyLooked}
-use Rattle.nb_texts.specs.Entering.{AreReplayed, HasEntered, HasNoSlot, HasStopped, IsIndex, PutsIfAbsent, calls_in, map_after_calls}
+use Rattle.nb_texts.specs.Entering.{AreReplayed, HasEntered, HasNoSlot, HasNoRoomFor, IsIndex, PutsIfAbsent, calls_in, map_after_calls}
 use Rattle.nb_texts.specs.Lines.{is_among, with_new_lines}
 use Rattle.nb_texts.proofs.ClaimLemmas.{claims-caught, claims-weaker, filled-later, has-filled, others-few, puts-fill}
 use Rattle.nb_texts.proofs.ClueLemmas.{zip-all}
@@ -541,7 +541,7 @@ past-room known line left m key room few count new = of (get m key) refl
 pub stopped-gathered :
     (keys : List ℕ → ℕ → ℕ) (before last : HandleOf) (texts lines : List (List ℕ)) (room : ℕ)
     (logs : HaveOneLog before) (parted after : SeatOf)
-    (stopped : HasStopped before.map.chain.shape keys parted after texts lines)
+    (stopped : HasNoRoomFor before.map.chain.shape keys parted after texts lines)
     → ((made : List (Call × Reply)) → HasLogged parted after made
     → (done : HasGathered made before last) × (done.parted.seat ≡ parted) × (done.after.seat ≡ after))
     → IsIndex keys texts (held before.seat)

@@ -71,7 +71,7 @@ pub record HasNoSlot (p : Plan) (key : ℕ) (before after : SeatOf) : Type 0 whe
 
 -- Of these lines the first ones were entered, and the next one can't be: it isn't there, if nothing is
 -- at a key for it, and this key has no slot; or there are 2^60 texts or more.
-pub record HasStopped (p : Plan) (key : List ℕ → ℕ → ℕ) (before after : SeatOf)
+pub record HasNoRoomFor (p : Plan) (key : List ℕ → ℕ → ℕ) (before after : SeatOf)
     (texts lines : List (List ℕ)) : Type 0 where
   pub done : List (List ℕ)
   pub line : List ℕ

@@ -14,7 +14,7 @@ ghost use Rattle.nb_map.specs.Settling.{HaveSettled};
 ghost use Rattle.nb_texts.specs.Catalogs.{CannotRenew, HaveClaimed, HaveOneLog, IsNoRoom};
 ghost use Rattle.nb_texts.specs.Claims.{HasClaimedBy};
 ghost use Rattle.nb_texts.specs.Clues.{AreCluesTo, ArePartedFrom, IsClueTo};
-ghost use Rattle.nb_texts.specs.Entering.{HasEntered, HasStopped};
+ghost use Rattle.nb_texts.specs.Entering.{HasEntered, HasNoRoomFor};
 ghost use Rattle.nb_texts.specs.Hashes.{hash_of, key_for};
 ghost use Rattle.nb_texts.specs.Lines.{lines_in, text_of_lines, with_new_lines};
 ghost use Rattle.nb_texts.specs.Memory.{bytes_to_make, lines_with, shape_with_room, widened};
@@ -389,7 +389,7 @@ fn enter_lines<R: Wait>(
     ensures rest { KeepsRest handle.old handle.new }
     ensures entered { OnOk result (HasEntered handle.old.map.chain.shape (key_for hashing)
         handle.old.seat handle.new.seat texts.old texts.new (lines_in block.now)) }
-    ensures full { result ≡ Err fault.FullOfLines → HasStopped handle.old.map.chain.shape
+    ensures full { result ≡ Err fault.FullOfLines → HasNoRoomFor handle.old.map.chain.shape
         (key_for hashing) handle.old.seat handle.new.seat texts.old (lines_in block.now) }
     ensures places { IfOk result (λ places. map (slice_get texts.new) places.items
         ≡ map Some (lines_in block.now)) }
@@ -420,7 +420,7 @@ fn enter_by<R: Wait>(
     ensures rest { KeepsRest handle.old handle.new }
     ensures entered { OnOk result (HasEntered handle.old.map.chain.shape (key_for hashing)
         handle.old.seat handle.new.seat texts.old texts.new (line.now ∷ [])) }
-    ensures full { result ≡ Err fault.FullOfLines → HasStopped handle.old.map.chain.shape
+    ensures full { result ≡ Err fault.FullOfLines → HasNoRoomFor handle.old.map.chain.shape
         (key_for hashing) handle.old.seat handle.new.seat texts.old (line.now ∷ []) }
     ensures grown { OnOk result ((more : List (List ℕ)) × (texts.new ≡ texts.old ++ more)) }
     ensures placed { IfOk result (λ place. slice_get texts.new place ≡ Some line.now) }
@@ -446,7 +446,7 @@ fn enter_line<R: Wait>(
     ensures rest { KeepsRest handle.old handle.new }
     ensures entered { OnOk result (HasEntered handle.old.map.chain.shape (key_for hashing)
         handle.old.seat handle.new.seat texts.old texts.new (line.now ∷ [])) }
-    ensures full { result ≡ Err fault.FullOfLines → HasStopped handle.old.map.chain.shape
+    ensures full { result ≡ Err fault.FullOfLines → HasNoRoomFor handle.old.map.chain.shape
         (key_for hashing) handle.old.seat handle.new.seat texts.old (line.now ∷ []) }
     ensures grown { OnOk result ((more : List (List ℕ)) × (texts.new ≡ texts.old ++ more)) }
     ensures placed { IfOk result (λ place. slice_get texts.new place ≡ Some line.now) }

@@ -4,7 +4,7 @@ use Rattle.std.proofs.lemmas.Grind.{common_steps}
 use Rattle.std.proofs.lemmas.List.{drop_all, drop_more}
 use Rattle.nb_lines.specs.declared.faults.ProgramFault.TheVariants as fault
 use Rattle.nb_map.specs.Maps.{MapOf}
-use Rattle.nb_texts.specs.Entering.{HasEntered, HasStopped}
+use Rattle.nb_texts.specs.Entering.{HasEntered, HasNoRoomFor}
 use Rattle.nb_texts.specs.Hashes.{key_for}
 use Rattle.nb_texts.specs.Lines.{lines_in}
 use Rattle.nb_texts.specs.declared.clues.Clue.TheVariants.{Place}
@@ -105,11 +105,11 @@ returns-in_err-place-clause-full g c =
     let left = lines_in c.split_line.result.1.now in
     let after = c.enter_by.new.handle.seat in
     let told : c.from_residual-in_err-place.result ≡ Err fault.FullOfLines
-    → HasStopped now.handle.map.chain.shape keys now.handle.seat after now.texts (line ∷ [])
+    → HasNoRoomFor now.handle.map.chain.shape keys now.handle.seat after now.texts (line ∷ [])
     = first_of (search rules, grind (arith, common_steps)) in
     λ is. entering-stopped p c.args.hashing c.args.handle.now.seat now.handle.seat c.args.texts.now
     now.texts (lines_in c.args.block.now) (lines_in now.rest.now)
     (drop now.clue-index c.args.clues.now) now.places.items now.invariant.so_far line left after
     c.split_line.ensures.line
-    (subst (λ (m : MapOf). HasStopped m.chain.shape keys now.handle.seat after now.texts (line ∷ []))
+    (subst (λ (m : MapOf). HasNoRoomFor m.chain.shape keys now.handle.seat after now.texts (line ∷ []))
     now.invariant.kept.map (told is))

@@ -7,7 +7,7 @@ use Rattle.nb_map.specs.OneSeat.{held}
 use Rattle.nb_texts.proofs.ClueLemmas.{readers-of}
 use Rattle.nb_texts.proofs.RestLemmas.{entered-gathered, gathered-claims, gathered-from, stopped-gathered}
 use Rattle.nb_texts.specs.Claims.{ClaimsOnly}
-use Rattle.nb_texts.specs.Entering.{HasEntered, HasStopped}
+use Rattle.nb_texts.specs.Entering.{HasEntered, HasNoRoomFor}
 use Rattle.nb_texts.specs.Hashes.{key_for}
 use Rattle.nb_texts.specs.Lines.{lines_in}
 use Rattle.nb_texts.proofs.catalog.Catalog.enter.Goals as goal
@@ -94,7 +94,7 @@ returns-clause-full g c = λ is.
     let keys = key_for before.hashing in
     let lines = lines_in c.args.block.now in
     let settled = c.in_ok-gather.ensures.settled in
-    let stopped = subst (λ (m : MapOf). HasStopped m.chain.shape keys parted.seat after.seat
+    let stopped = subst (λ (m : MapOf). HasNoRoomFor m.chain.shape keys parted.seat after.seat
     before.texts lines) c.parted.ensures.same.0 (c.enter_lines-places.ensures.full is) in
     stopped-gathered keys before.handle last before.texts lines before.room at_rest.logs parted.seat
     after.seat stopped
