@@ -1,17 +1,16 @@
 -- Pages: texts under their keys, and what is found of them.
 use Rattle.std.specs.Prelude.{◌≡◌, ◌<◌, ◌≤◌, ℕ, List, MatchOption, None, Ok, Option, Some, if◌then◌else◌}
-use Rattle.boxcar.specs.Table.{Shelves, Shows, Where}
+use Rattle.boxcar.specs.Table.{Where}
 use Rattle.core.specs.Str.{bytes_eq}
-use Rattle.nb_core.specs.Log.{reply_at}
-use Rattle.nb_core.specs.declared.calls.Call.TheVariants as call
 use Rattle.nb_core.specs.declared.calls.Want.TheVariants as want
-use Rattle.nb_long.specs.Handles.{HandleOf}
-use Rattle.nb_long.specs.Promises.{HasPutValue}
+use Rattle.nb_long.specs.Promises.{HasGotValue, HasPutValue}
+use Rattle.nb_long.specs.Typed.{LongMapOf}
 use Rattle.nb_long.specs.declared.map.Stored.{Stored}
-use Rattle.nb_map.specs.Logs.{HasReplied}
+use Rattle.nb_map.specs.Maps.{SeatOf}
 use Rattle.nb_map.specs.NamedCalls.{remove_of}
 use Rattle.nb_map.specs.Progress.{Unlimited}
 use Rattle.nb_map.specs.Promises.{Found, HasWritten}
+use Rattle.nb_cache.specs.Ages.{counted}
 use Rattle.nb_cache.specs.declared.pages.Page.{Page}
 use Rattle.nb_cache.specs.declared.trace.Action.TheVariants.{Get, Put, PutTooLarge}
 use Rattle.nb_cache.specs.declared.trace.Action.{Action}
@@ -20,53 +19,48 @@ use Rattle.nb_cache.specs.declared.trace.Action.{Action}
 abbrev pub text_for : Page → (name : List ℕ) → Option (List ℕ)
 text_for page name = if bytes_eq page.name.items name then Some page.text.items else None
 
--- What is found of a key where the map has this number at its place, or none: nothing where it has
--- none; else the text of the page that is stored under the number, if that is the key's page.
-abbrev pub IsTextFound : Shelves → (name : List ℕ) → Option ℕ → (found : Option (List ℕ)) → Type 0
-IsTextFound store name None found = found ≡ None
-IsTextFound store name (Some number) found =
-    (token : Where Page) × Shows store token × (token.index ≡ number)
-    × (found ≡ text_for token.value name)
+-- what is found of a key, at whose place this page is, or none
+abbrev pub text_found : Option (Where Page) → (name : List ℕ) → Option (List ℕ)
+text_found None name = None
+text_found (Some page) name = text_for page.value name
 
--- The map replied that it has this number at the place, or none; and this is what is found of the
--- key there.
-pub record HasFoundText (place : ℕ) (name : List ℕ) (before after : HandleOf)
-    (found : Option (List ℕ)) : Type 0 where
-  pub number : Option ℕ
-  pub replied :
-      HasReplied (call.Get place) before.seat after.seat (reply_at (call.Get place) number)
-  pub is : IsTextFound before.map.store name number found
+-- The map's put has put the page that was stored at the place, with the key and this text.
+pub record HasPutText (m : LongMapOf) (place : ℕ) (name text : List ℕ) (before after : SeatOf)
+    (stored : Stored Page) : Type 0 where
+  pub name_is : stored.receipt.value.name.items ≡ name
+  pub text_is : stored.receipt.value.text.items ≡ text
+  pub wrote : HasPutValue m place want.Any stored.receipt.value before after (Ok stored)
 
--- The map's put has put a page at the place, with the key and this text.
-pub record HasPutText (place : ℕ) (name text : List ℕ) (before after : HandleOf) : Type 0 where
-  pub page : Page
-  pub name_is : page.name.items ≡ name
-  pub text_is : page.text.items ≡ text
-  pub stored : Stored Page
-  pub wrote : HasPutValue before.map place want.Any page before.seat after.seat (Ok stored)
+-- what is at the place is taken out by one call
+abbrev pub IsTakenOut : LongMapOf → (place : ℕ) → (before after : SeatOf) → Type 0
+IsTakenOut m place before after = (number : Option ℕ)
+    × HasWritten m.map (remove_of place) before after Unlimited (Found number)
 
--- The text that was found of the key is taken out by one call; or none was found, and nothing else was
--- called for.
-pub record HasDropped (place : ℕ) (name : List ℕ) (before after : HandleOf) : Type 0 where
-  pub found : Option (List ℕ)
-  pub between : HandleOf
-  pub looked : HasFoundText place name before between found
+-- The map has this page at the place, or none. The text that is found there of the key is taken out;
+-- or none is found, and nothing else was called for.
+pub record HasDropped (m : LongMapOf) (place : ℕ) (name : List ℕ) (before after : SeatOf)
+    (page : Option (Where Page)) : Type 0 where
+  pub between : SeatOf
+  pub got : HasGotValue m place before between (Ok page)
   pub gone :
-      MatchOption found (after ≡ between) (λ _. (number : Option ℕ)
-      × HasWritten between.map.map (remove_of place) between.seat after.seat Unlimited (Found number))
+      MatchOption (text_found page name) (after ≡ between) (λ _. IsTakenOut m place between after)
 
--- What a text comes to that was put by this line, where those before another line go: it is taken out
--- by one call, or stays, and is counted for so much.
+-- What a page comes to where those go that were put before a line: it is taken out, or stays, and is
+-- counted.
 abbrev pub GoesIfOld :
-    (first line place : ℕ) → (before after : HandleOf) → (left : Option ℕ) → Type 0
-GoesIfOld first line place before after None =
-    (line < first) × ((number : Option ℕ)
-    × HasWritten before.map.map (remove_of place) before.seat after.seat Unlimited (Found number))
-GoesIfOld first line place before after (Some count) = (first ≤ line) × (after ≡ before)
+    (first : ℕ) → Page → LongMapOf → (place : ℕ) → (before after : SeatOf)
+    → (left : Option ℕ) → Type 0
+GoesIfOld first page m place before after None =
+    (page.line < first) × IsTakenOut m place before after
+GoesIfOld first page m place before after (Some count) =
+    (first ≤ page.line) × (count ≡ counted page.name.items page.text.items) × (after ≡ before)
 
--- What a line asks for is done at the place.
-abbrev pub IsDone : Action → (place : ℕ) → (name : List ℕ) → (before after : HandleOf) → Type 0
-IsDone Get place name before after =
-    (found : Option (List ℕ)) × HasFoundText place name before after found
-IsDone (Put text) place name before after = HasPutText place name text.now before after
-IsDone PutTooLarge place name before after = HasDropped place name before after
+-- What a line asks for is done at the place, where this page was stored, or found, or none.
+abbrev pub IsDone :
+    Action → LongMapOf → (place : ℕ) → (name : List ℕ) → (before after : SeatOf)
+    → (page : Option (Where Page)) → Type 0
+IsDone Get m place name before after page = HasGotValue m place before after (Ok page)
+IsDone (Put text) m place name before after page =
+    (stored : Stored Page) × (page ≡ Some stored.receipt)
+    × HasPutText m place name text.now before after stored
+IsDone PutTooLarge m place name before after page = HasDropped m place name before after page

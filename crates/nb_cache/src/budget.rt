@@ -1,7 +1,6 @@
 //! A bound on memory: how much texts may take, and which of them go where others come.
-ghost use Rattle.std.specs.Prelude.{◌≡◌, ◌+◌, ◌-◌, ◌^◌, ◌<◌, ◌≤◌, ◌↔◌, ℕ, IsTrue, length, min};
-ghost use Rattle.nb_cache.specs.Ages.{counted_from};
-ghost use Rattle.nb_cache.specs.declared.budget.TheConstants.{BESIDE};
+ghost use Rattle.std.specs.Prelude.{◌≡◌, ◌+◌, ◌-◌, ◌^◌, ◌<◌, ◌≤◌, ◌↔◌, ℕ, IsTrue, min};
+ghost use Rattle.nb_cache.specs.Ages.{counted, counted_from};
 
 use nb_core::MOST_KEYS;
 
@@ -11,8 +10,7 @@ const BESIDE: u64 = 512;
 
 /// What a text is counted for.
 pub(crate) fn count_of(name: &[u8], text: &[u8]) -> u64
-    ensures { length name.now + length text.now + BESIDE < 2 ^ 64
-        → result ≡ length name.now + length text.now + BESIDE }
+    ensures { result ≡ counted name.now text.now }
 {
     let bytes = (name.len() as u64).saturating_add(text.len() as u64);
     bytes.saturating_add(BESIDE)

@@ -1,15 +1,17 @@
 //! The calls of the cache: a key's text is got, or put.
-ghost use Rattle.std.specs.Prelude.{◌≡◌, ◌+◌, ◌%◌, ◌^◌, ◌&&◌, ◌++◌, ℕ, IfOk, IsTrue, List, MatchOption, None, OnOk, Option, Ok, Some, if◌then◌else◌, is_none, is_some};
+ghost use Rattle.std.specs.Prelude.{◌≡◌, ◌+◌, ◌%◌, ◌^◌, ◌&&◌, ◌++◌, IfOk, IsTrue, MatchOption, None, Ok, Some, if◌then◌else◌, is_none, is_some};
 ghost use Rattle.nb_long.specs.Handles.{KeepsRest};
-ghost use Rattle.nb_cache.specs.Pages.{HasDropped, HasFoundText, HasPutText, IsTextFound};
+ghost use Rattle.nb_long.specs.Promises.{HasGotValue};
+ghost use Rattle.nb_long.specs.Typed.{IsValueShown};
+ghost use Rattle.nb_cache.specs.Pages.{HasDropped, HasPutText, text_found};
 ghost use Rattle.nb_cache.specs.Replies.{reply_line};
 
-use crate::pages::Page;
+use crate::pages::{Page, page_of};
 use crate::replies::Replies;
 use crate::trace::TraceKey;
 use nb_core::{Key, Num};
 use nb_lines::ProgramFault;
-use nb_long::{Handle, LongFault};
+use nb_long::{Found, Handle, LongFault, Receipt, Stored};
 use std::alloc::Global;
 use std::sync::Wait;
 
@@ -77,48 +79,60 @@ impl Worker {
 }
 
 /// Gets the text of a key, whose place is this map key, and says what it is. It counts as a hit just
-/// where the page that the map has there is the key's.
+/// where the page that the map has there is the key's. What reads that page is answered.
 pub(crate) fn get(
     worker: &mut Worker,
     handle: &mut Handle<Page>,
     place: Key,
     key: TraceKey<'_>,
-) -> Result<(), ProgramFault>
+) -> Result<Option<Receipt<Page>>, ProgramFault>
     ensures rest { KeepsRest handle.old handle.new }
-    ensures hit { OnOk result ((found : Option (List ℕ))
-        × HasFoundText place key.entry.name.now handle.old handle.new found
-        × (worker.new.counts.hits ≡ (if is_some found
+    ensures got { IfOk result (λ page. HasGotValue handle.old.map place handle.old.seat
+        handle.new.seat (Ok page)) }
+    ensures hit { IfOk result (λ page. worker.new.counts.hits
+        ≡ (if is_some (text_found page key.entry.name.now)
         then (worker.old.counts.hits + 1) % 2 ^ 64
-        else worker.old.counts.hits))
-        × (IsTrue worker.old.replies.are_told → worker.new.replies.text.items
-        ≡ worker.old.replies.text.items ++ reply_line key.entry.number key.entry.name.now found)) }
+        else worker.old.counts.hits)) }
+    ensures said { IfOk result (λ page. IsTrue worker.old.replies.are_told
+        → worker.new.replies.text.items ≡ worker.old.replies.text.items
+        ++ reply_line key.entry.number key.entry.name.now
+        (text_found page key.entry.name.now)) }
 {
     let number = handle.number_at(place);
-    let found = look_at(handle, number, key.name)?;
+    let page = page_at(handle, number)?;
+    let found = text_in(&page, key.name);
     let counts = &mut worker.counts;
     counts.gets = counts.gets.wrapping_add(1);
     if found.is_some() {
         counts.hits = counts.hits.wrapping_add(1);
     }
     worker.replies.say(worker.line, key, found)?;
-    Ok(())
+    Ok(page.map(Found::into_receipt))
 }
 
-/// The text of a key, at whose place the map has this number, or none.
-fn look_at<'a>(
-    cache: &'a Handle<Page>,
+/// The page that is stored under the number that the map has at a place, or none.
+fn page_at(
+    cache: &Handle<Page>,
     number: Option<Num>,
-    name: &[u8],
-) -> Result<Option<&'a [u8]>, ProgramFault>
-    ensures { IfOk result (λ found. MatchOption found
-        (IsTextFound cache.now.map.store name.now number None)
-        (λ text. IsTextFound cache.now.map.store name.now number (Some text.now))) }
+) -> Result<Option<Found<'_, Page>>, ProgramFault>
+    ensures { IfOk result (λ page. IsValueShown cache.now.map.store number (Ok page)) }
 {
     let Some(number) = number else {
         return Ok(None);
     };
-    let page = cache.show(number).ok_or(ProgramFault::Unshown)?;
-    Ok(page.value().text_for(name))
+    let page = page_of(cache, number)?;
+    Ok(Some(page))
+}
+
+/// The text of a key, at whose place this page is, or none.
+fn text_in<'a>(page: &Option<Found<'a, Page>>, name: &[u8]) -> Option<&'a [u8]>
+    ensures { MatchOption result (text_found page.now name.now ≡ None)
+        (λ text. text_found page.now name.now ≡ Some text.now) }
+{
+    match page {
+        Some(page) => page.value().text_for(name),
+        None => None,
+    }
 }
 
 /// Puts a text at the place of its key, instead of what is there.
@@ -130,9 +144,10 @@ pub(crate) fn put<R: Wait>(
     place: Key,
     key: TraceKey<'_>,
     text: &[u8],
-) -> Result<(), ProgramFault>
+) -> Result<Stored<Page>, ProgramFault>
     ensures rest { KeepsRest handle.old handle.new }
-    ensures put { OnOk result (HasPutText place key.entry.name.now text.now handle.old handle.new) }
+    ensures put { IfOk result (HasPutText handle.old.map place key.entry.name.now text.now
+        handle.old.seat handle.new.seat) }
 {
     let page = Page::new(alloc, key.name, text, worker.line)?;
     let count = page.age().count;
@@ -141,57 +156,56 @@ pub(crate) fn put<R: Wait>(
         Err(refused) => return Err(fault_of(refused)),
     };
     worker.counts.stored = worker.counts.stored.wrapping_add(count);
-    count_put(&mut worker.counts, handle, stored.before, key.name)
+    let before = page_at(handle, stored.before)?;
+    count_put(&mut worker.counts, &before, key.name);
+    Ok(stored)
 }
 
-/// Counts a put at a key, at whose place there was this number, or none. What was there is lost just
-/// where it is another key's page.
-fn count_put(
-    counts: &mut Counts,
-    cache: &Handle<Page>,
-    before: Option<Num>,
-    name: &[u8],
-) -> Result<(), ProgramFault>
-    ensures puts { OnOk result (counts.new.puts ≡ (counts.old.puts + 1) % 2 ^ 64) }
-    ensures keys { OnOk result (counts.new.keys ≡ (if is_some before
+/// Counts a put at a key, at whose place this page was, or none. It is lost just where it is another
+/// key's.
+fn count_put(counts: &mut Counts, before: &Option<Found<'_, Page>>, name: &[u8])
+    ensures puts { counts.new.puts ≡ (counts.old.puts + 1) % 2 ^ 64 }
+    ensures keys { counts.new.keys ≡ (if is_some before.now
         then counts.old.keys
-        else (counts.old.keys + 1) % 2 ^ 64)) }
-    ensures evicted { OnOk result ((found : Option (List ℕ))
-        × IsTextFound cache.now.map.store name.now before found
-        × (counts.new.evicted ≡ (if is_some before && is_none found
+        else (counts.old.keys + 1) % 2 ^ 64) }
+    ensures evicted { counts.new.evicted
+        ≡ (if is_some before.now && is_none (text_found before.now name.now)
         then (counts.old.evicted + 1) % 2 ^ 64
-        else counts.old.evicted))) }
+        else counts.old.evicted) }
 {
-    let found = look_at(cache, before, name)?;
+    let found = text_in(before, name);
     counts.puts = counts.puts.wrapping_add(1);
     if before.is_none() {
         counts.keys = counts.keys.wrapping_add(1);
     } else if found.is_none() {
         counts.evicted = counts.evicted.wrapping_add(1);
     }
-    Ok(())
 }
 
-/// Puts a text at a key that is too large to be kept: the cache has none at the key then.
+/// Puts a text at a key that is too large to be kept: the cache has none at the key then. What reads
+/// the page that was at the key's place is answered.
 pub(crate) fn put_too_large<R: Wait>(
     rt: &R,
     counts: &mut Counts,
     handle: &mut Handle<Page>,
     place: Key,
     name: &[u8],
-) -> Result<(), ProgramFault>
+) -> Result<Option<Receipt<Page>>, ProgramFault>
     ensures rest { KeepsRest handle.old handle.new }
-    ensures dropped { OnOk result (HasDropped place name.now handle.old handle.new) }
+    ensures dropped { IfOk result (HasDropped handle.old.map place name.now handle.old.seat
+        handle.new.seat) }
 {
     let number = handle.number_at(place);
-    let is_there = look_at(handle, number, name)?.is_some();
+    let page = page_at(handle, number)?;
+    let is_there = text_in(&page, name).is_some();
+    let page = page.map(Found::into_receipt);
     counts.puts = counts.puts.wrapping_add(1);
     counts.evicted = counts.evicted.wrapping_add(1);
     if is_there {
         let _number = handle.remove(rt, place);
         counts.keys = counts.keys.wrapping_sub(1);
     }
-    Ok(())
+    Ok(page)
 }
 
 /// What a refused put comes to. So many puts that their numbers are past the greatest are out of

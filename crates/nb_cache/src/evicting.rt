@@ -1,15 +1,14 @@
 //! Texts are evicted: those that were put longest ago go.
 ghost use Rattle.std.specs.Prelude.{◌≡◌, ◌-◌, ◌<◌, ◌^◌, IfOk};
-ghost use Rattle.boxcar.specs.Table.{Shows, Where};
+ghost use Rattle.boxcar.specs.Table.{Shows};
 ghost use Rattle.nb_long.specs.Handles.{IsWhole, KeepsRest};
 ghost use Rattle.nb_cache.specs.Pages.{GoesIfOld};
-ghost use Rattle.nb_cache.specs.declared.pages.Page.{Page};
 
 use crate::budget::{Age, first_kept};
-use crate::pages::Page;
+use crate::pages::{Page, page_of};
 use nb_core::{Key, Num};
 use nb_lines::ProgramFault;
-use nb_long::{Handle, SettleFault};
+use nb_long::{Handle, Receipt, SettleFault};
 use std::alloc::Global;
 use std::sync::Wait;
 
@@ -59,18 +58,9 @@ fn ages_of(
 ) -> Result<Vec<Age>, ProgramFault> {
     let mut ages = Vec::with_capacity(alloc, entries.len())?;
     for (_place, number) in entries {
-        ages.push(age_of(cache, *number)?)?;
+        ages.push(page_of(cache, *number)?.value().age())?;
     }
     Ok(ages)
-}
-
-/// How old the text is whose page is stored under this number.
-fn age_of(cache: &Handle<Page>, number: Num) -> Result<Age, ProgramFault>
-    ensures { IfOk result (λ age. (token : Where Page) × Shows cache.now.map.store token
-        × (token.index ≡ number) × (age.line ≡ token.value.line)) }
-{
-    let page = cache.show(number).ok_or(ProgramFault::Unshown)?;
-    Ok(page.value().age())
 }
 
 /// Takes those of these entries out whose texts were put before a line.
@@ -85,7 +75,8 @@ fn take_out<R: Wait>(
 {
     let mut evicted = Evicted { texts: 0, left: 0 };
     for (place, number) in entries {
-        match take_out_old(rt, cache, *place, *number, line)? {
+        let (_page, left) = take_out_old(rt, cache, *place, *number, line)?;
+        match left {
             None => evicted.texts = evicted.texts.wrapping_add(1),
             Some(count) => evicted.left = evicted.left.saturating_add(count),
         }
@@ -94,22 +85,25 @@ fn take_out<R: Wait>(
 }
 
 /// Takes the text out whose page is stored under this number, and is at this place, if it was put
-/// before a line; else answers what it is counted for.
+/// before a line. Answers what reads the page, and what a text that stays is counted for.
 fn take_out_old<R: Wait>(
     rt: &R,
     cache: &mut Handle<Page>,
     place: Key,
     number: Num,
     line: u64,
-) -> Result<Option<u64>, ProgramFault>
+) -> Result<(Receipt<Page>, Option<u64>), ProgramFault>
     ensures rest { KeepsRest cache.old cache.new }
-    ensures old { IfOk result (λ left. (token : Where Page) × Shows cache.old.map.store token
-        × (token.index ≡ number) × GoesIfOld line token.value.line place cache.old cache.new left) }
+    ensures shown { IfOk result (λ old. Shows cache.old.map.store old.0 × (old.0.index ≡ number)) }
+    ensures old { IfOk result (λ old. GoesIfOld line old.0.value cache.old.map place cache.old.seat
+        cache.new.seat old.1) }
 {
-    let age = age_of(cache, number)?;
+    let page = page_of(cache, number)?;
+    let age = page.value().age();
+    let page = page.into_receipt();
     if age.line >= line {
-        return Ok(Some(age.count));
+        return Ok((page, Some(age.count)));
     }
     let _number = cache.remove(rt, place);
-    Ok(None)
+    Ok((page, None))
 }

@@ -1,9 +1,13 @@
 //! Pages: what a put stores.
 ghost use Rattle.std.specs.Prelude.{◌≡◌, IfOk, MatchOption, None, Some};
+ghost use Rattle.boxcar.specs.Table.{Shows};
+ghost use Rattle.nb_cache.specs.Ages.{counted};
 ghost use Rattle.nb_cache.specs.Pages.{text_for};
 
 use crate::budget::{Age, count_of};
-use nb_core::OutOfMemory;
+use nb_core::{Num, OutOfMemory};
+use nb_lines::ProgramFault;
+use nb_long::{Found, Handle};
 use std::alloc::Global;
 
 /// A text under its key.
@@ -34,7 +38,8 @@ impl Page {
 
     /// By which line it was put, and what it is counted for.
     pub(crate) fn age(&self) -> Age
-        ensures { result.line ≡ self.now.line }
+        ensures line { result.line ≡ self.now.line }
+        ensures count { result.count ≡ counted self.now.name.items self.now.text.items }
     {
         Age {
             line: self.line,
@@ -53,4 +58,11 @@ impl Page {
             None
         }
     }
+}
+
+/// The page that is stored under a number, which the map gave.
+pub(crate) fn page_of(cache: &Handle<Page>, number: Num) -> Result<Found<'_, Page>, ProgramFault>
+    ensures { IfOk result (λ page. Shows cache.now.map.store page × (page.index ≡ number)) }
+{
+    cache.show(number).ok_or(ProgramFault::Unshown)
 }

@@ -1,5 +1,5 @@
 //! Replaying: workers that share a cache, each with keys of its own.
-ghost use Rattle.std.specs.Prelude.{◌≡◌, ℕ, OnOk};
+ghost use Rattle.std.specs.Prelude.{◌≡◌, ℕ, IfOk};
 ghost use Rattle.nb_lines.specs.Keys.{number_at};
 ghost use Rattle.nb_long.specs.Handles.{IsWhole, KeepsRest};
 ghost use Rattle.nb_cache.specs.Pages.{IsDone};
@@ -15,7 +15,7 @@ use crate::run::Run;
 use crate::stream::Stream;
 use crate::trace::{Action, Request};
 use nb_lines::{ProgramFault, key_of};
-use nb_long::Handle;
+use nb_long::{Handle, Receipt};
 use std::alloc::Global;
 use std::io::{Read, Write};
 use std::sync::Wait;
@@ -225,7 +225,8 @@ fn tell<R: Eprint>(rt: &R, block: &Block<'_>) {
     }
 }
 
-/// Makes the call that a line asks for, which is in a part behind so many lines.
+/// Makes the call that a line asks for, which is in a part behind so many lines. Answers what reads
+/// the page that it stored, or else the one that it found, if any.
 fn call<R: Wait>(
     rt: &R,
     alloc: Global,
@@ -233,17 +234,22 @@ fn call<R: Wait>(
     handle: &mut Handle<Page>,
     before: u64,
     request: Request<'_>,
-) -> Result<(), ProgramFault>
+) -> Result<Option<Receipt<Page>>, ProgramFault>
     ensures rest { KeepsRest handle.old handle.new }
-    ensures done { OnOk result ((place : ℕ) × (number_at place ≡ request.entry.key.number)
-        × IsDone request.entry.action place request.entry.key.name.now handle.old handle.new) }
+    ensures done { IfOk result (λ page. (place : ℕ)
+        × (number_at place ≡ request.entry.key.number)
+        × IsDone request.entry.action handle.old.map place request.entry.key.name.now
+        handle.old.seat handle.new.seat page) }
 {
     let Request { key, line, action } = request;
     let place = key_of(key.number).unwrap();
     worker.line = before.wrapping_add(line);
     match action {
         Action::Get => get(worker, handle, place, key),
-        Action::Put(text) => put(rt, alloc, worker, handle, place, key, text),
+        Action::Put(text) => match put(rt, alloc, worker, handle, place, key, text) {
+            Ok(stored) => Ok(Some(stored.receipt)),
+            Err(fault) => Err(fault),
+        },
         Action::PutTooLarge => put_too_large(rt, &mut worker.counts, handle, place, key.name),
     }
 }
