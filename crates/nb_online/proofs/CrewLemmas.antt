@@ -89,7 +89,7 @@ kept-by zero request (w ∷ workers) new d below same last = record {
       let is' : new ≡ worker' = some-same new worker' at' in (
         ap (λ (u : Worker). u.caller) (sym is') ∙ same ∙ ap (λ (u : Worker). u.caller) is,
         ap (λ (u : Worker). u.requests.items) (sym is') ∙ last
-        ∙ ap (λ (u : Worker). u.requests.items ++ request ∷ []) is,
+            ∙ ap (λ (u : Worker). u.requests.items ++ request ∷ []) is,
       );
   others = others;
 }

@@ -19,5 +19,8 @@ returns-in-Err-settled-clause-refused g c =
     let middle = c.work.new.self.workers.items in
     let after = c.settled-crew.result.0.workers.items in
     let same = subst (λ r. OnErr r (after ≡ middle)) c.in-Err-settled.is c.settled-crew.ensures.same in
-    inr (refl, subst (λ (l : List Worker). HaveDoneAll c.args.self.workers.items l) (sym same)
-    c.in_default.ensures.done)
+    inr (
+      refl,
+      subst (λ (l : List Worker). HaveDoneAll c.args.self.workers.items l) (sym same)
+          c.in_default.ensures.done,
+    )
