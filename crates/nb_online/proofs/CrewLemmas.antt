@@ -10,7 +10,7 @@ use Rattle.nb_lasting.specs.Guests.{AreAllGuests, CallsAddUp, GuestHasCalled, Gu
 use Rattle.nb_lasting.specs.Shared.{IsOfGuest}
 use Rattle.nb_lasting.specs.declared.faults.GrowFault.{GrowFault}
 use Rattle.nb_map.specs.declared.faults.SettleFault.{SettleFault}
-use Rattle.nb_online.specs.Working.{AreAllWorkers, AreSameGuests, HasDoneAll, HasDoneItsPart, HasRunOutOfRoom, HaveCounted, HaveDoneAll, IsKeptBy, WorkersHaveSettled, call_made, guests_of, beside_guest, workers_of}
+use Rattle.nb_online.specs.Working.{AreAllWorkers, AreSameGuests, HasDoneAll, HasDoneItsPart, HasRunOutOfRoom, HaveCounted, HaveDoneAll, IsAssignedTo, WorkersHaveSettled, call_made, guests_of, beside_guest, workers_of}
 use Rattle.nb_online.specs.declared.worker.Part.{Part}
 use Rattle.nb_online.specs.declared.worker.Request.{Request}
 use Rattle.nb_online.specs.declared.worker.Worker.{Worker}
@@ -65,7 +65,7 @@ guests-set (w ∷ workers) (suc k) new d below same =
 
 kept-behind :
     (owner : ℕ) (request : Request) (w : Worker) (before after : List Worker)
-    → IsKeptBy owner request before after → IsKeptBy (suc owner) request (w ∷ before) (w ∷ after)
+    → IsAssignedTo owner request before after → IsAssignedTo (suc owner) request (w ∷ before) (w ∷ after)
 kept-behind owner request w before after kept = record {
   count = ap suc kept.count;
   last = kept.last;
@@ -80,7 +80,7 @@ pub kept-by :
     (owner : ℕ) (request : Request) (workers : List Worker) (new d : Worker)
     → owner < length workers → new.caller ≡ (get_or workers owner d).caller
     → new.requests.items ≡ (get_or workers owner d).requests.items ++ request ∷ []
-    → IsKeptBy owner request workers (slice_set workers owner new)
+    → IsAssignedTo owner request workers (slice_set workers owner new)
 kept-by owner request [] new d below same last = absurd (omega (arith, below))
 kept-by zero request (w ∷ workers) new d below same last = record {
   count = refl;

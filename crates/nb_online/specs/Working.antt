@@ -95,7 +95,7 @@ pub record OneHasRunOutOfRoom (before after : List Worker) (fault : GrowFault) :
 -- ---- at the beginning
 
 -- It has done nothing, has counted nothing, and has nothing to do.
-pub record IsNew (worker : Worker) : Type 0 where
+pub record IsUnused (worker : Worker) : Type 0 where
   pub idle : worker.requests.items ≡ []
   pub came : worker.caller.came ≡ 0
   pub went : worker.caller.went ≡ 0
@@ -108,7 +108,7 @@ moves_of workers counted = sum_by (λ worker. counted worker.caller) workers % 2
 -- ---- a request is kept
 
 -- The worker with this number has it as its last one, and all else is as before.
-pub record IsKeptBy (owner : ℕ) (request : Request) (before after : List Worker) : Type 0 where
+pub record IsAssignedTo (owner : ℕ) (request : Request) (before after : List Worker) : Type 0 where
   pub count : length after ≡ length before
   pub last :
       (worker worker' : Worker) → slice_get before owner ≡ Some worker
@@ -118,8 +118,8 @@ pub record IsKeptBy (owner : ℕ) (request : Request) (before after : List Worke
   pub others : (i : ℕ) → i ≢ owner → slice_get after i ≡ slice_get before i
 
 -- The worker is the one whose number is left when the key is divided by how many there are.
-abbrev pub IsKept : Request → (before after : List Worker) → Type 0
-IsKept request before after = IsKeptBy (request.key % length before) request before after
+abbrev pub IsAssigned : Request → (before after : List Worker) → Type 0
+IsAssigned request before after = IsAssignedTo (request.key % length before) request before after
 
 -- ---- a worker and its guest
 

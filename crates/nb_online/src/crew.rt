@@ -1,7 +1,7 @@
 //! The workers, and the map that their guests share.
 ghost use Rattle.std.specs.Prelude.{◌≡◌, ◌<◌, ◌≤◌, [], All, IfErr, IfOk, OnErr, OnOk, length, map, vec_capacity};
 ghost use Rattle.nb_lasting.specs.Guests.{AreAllGuests, GuestsHaveSettled, HaveCome};
-ghost use Rattle.nb_online.specs.Working.{AreAllWorkers, AreNotCounted, AreSameGuests, HasDoneItsPart, HaveCounted, HaveDoneAll, IsKept, IsKeptBy, IsNew, OneHasRunOutOfRoom, WorkersHaveSettled, beside_guest, guests_of, moves_of, workers_of};
+ghost use Rattle.nb_online.specs.Working.{AreAllWorkers, AreNotCounted, AreSameGuests, HasDoneItsPart, HaveCounted, HaveDoneAll, IsAssigned, IsAssignedTo, IsUnused, OneHasRunOutOfRoom, WorkersHaveSettled, beside_guest, guests_of, moves_of, workers_of};
 
 use crate::worker::{Action, Part, Request, Worker};
 use nb_core::{Key, OutOfMemory};
@@ -26,7 +26,7 @@ impl Crew {
         requires some { (1 ≤ workers) × (workers ≤ 8) }
         ensures come { IfOk result (λ crew. HaveCome workers crew.shared
             (guests_of crew.workers.items)) }
-        ensures idle { IfOk result (λ crew. All IsNew crew.workers.items) }
+        ensures idle { IfOk result (λ crew. All IsUnused crew.workers.items) }
     {
         let (shared, guests) = SharedLasting::open(alloc, workers, keys)?;
         let workers = hired(alloc, guests)?;
@@ -36,7 +36,7 @@ impl Crew {
     /// Keeps a request for the worker whose key it is at: the one whose number is left when the
     /// key's is divided by the number of workers.
     pub(crate) fn keep(&mut self, key: Key, action: Action) -> Result<(), OutOfMemory>
-        ensures { OnOk result (IsKept (record { key = key; action = action })
+        ensures { OnOk result (IsAssigned (record { key = key; action = action })
             self.old.workers.items self.new.workers.items) }
     {
         let workers = self.workers.len().max(1) as u64;
@@ -132,7 +132,7 @@ impl Crew {
 fn keep_for(workers: &mut [Worker], owner: usize, request: Request) -> Result<(), OutOfMemory>
     requires owner { owner < length workers.old }
     ensures guests { guests_of workers.new ≡ guests_of workers.old }
-    ensures kept { OnOk result (IsKeptBy owner request workers.old workers.new) }
+    ensures kept { OnOk result (IsAssignedTo owner request workers.old workers.new) }
 {
     workers[owner].push(request)
 }
@@ -140,7 +140,7 @@ fn keep_for(workers: &mut [Worker], owner: usize, request: Request) -> Result<()
 /// A worker for each guest.
 fn hired(alloc: Global, guests: Vec<Guest>) -> Result<Vec<Worker>, OutOfMemory>
     ensures { IfOk result (λ workers. (guests_of workers.items ≡ guests.items)
-        × All IsNew workers.items) }
+        × All IsUnused workers.items) }
 {
     let mut workers = Vec::with_capacity(alloc, guests.len())?;
     for guest in guests {

@@ -98,11 +98,11 @@ pub(crate) struct Part {
 }
 
 impl Worker {
-    ghost use Rattle.nb_online.specs.Working.{HasDoneAll, HasDoneItsPart, HasRunOutOfRoom, IsNew, beside_guest};
+    ghost use Rattle.nb_online.specs.Working.{HasDoneAll, HasDoneItsPart, HasRunOutOfRoom, IsUnused, beside_guest};
 
     pub(crate) fn new(alloc: Global, guest: Guest) -> Worker
         ensures guest { result.caller.guest ≡ guest }
-        ensures idle { IsNew result }
+        ensures idle { IsUnused result }
     {
         let part = Part {
             came: 0,
