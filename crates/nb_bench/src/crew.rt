@@ -27,7 +27,7 @@ pub(crate) struct Tally {
 
 impl Tally {
     /// Nothing is counted.
-    const NOTHING: Tally = Tally {
+    pub(crate) const NOTHING: Tally = Tally {
         calls: 0,
         nanoseconds: 0,
         sum: 0,
@@ -35,7 +35,7 @@ impl Tally {
     };
 
     /// What two workers counted who worked at the same time.
-    fn beside(self, other: Tally) -> Tally {
+    pub(crate) fn beside(self, other: Tally) -> Tally {
         Tally {
             calls: self.calls.wrapping_add(other.calls),
             nanoseconds: self.nanoseconds.max(other.nanoseconds),

@@ -18,7 +18,7 @@ use std::time::Duration;
 pub(crate) const BATCH: u64 = 1024;
 
 /// Where the one key is that all put at.
-const ONE_PLACE: u32 = 4242;
+pub(crate) const ONE_PLACE: u32 = 4242;
 
 /// Which calls are made.
 #[derive(Clone, Copy)]
@@ -48,7 +48,7 @@ pub(crate) struct Draws<'a> {
 
 impl<'a> Draws<'a> {
     /// A tenth of this job, by which workers warm up.
-    fn tenth(&self) -> Draws<'a> {
+    pub(crate) fn tenth(&self) -> Draws<'a> {
         Draws {
             time: self.time.checked_div(10).unwrap_or(self.time),
             batches: self.batches / 10,
@@ -65,22 +65,22 @@ impl<'a> Draws<'a> {
     }
 
     /// The job of the worker with this number: the first one tells progress.
-    fn part(&self, number: usize) -> Draws<'a> {
+    pub(crate) fn part(&self, number: usize) -> Draws<'a> {
         if number == 0 { *self } else { self.quiet() }
     }
 }
 
 /// What a worker draws with.
 #[derive(Clone, Copy)]
-struct Source {
-    random: Random,
+pub(crate) struct Source {
+    pub(crate) random: Random,
     /// From which of the samples on the next batch is.
     sample: u64,
 }
 
 impl Source {
     /// That of the worker with this number, of so many. They begin at samples far from each other.
-    fn new(number: usize, workers: usize) -> Source {
+    pub(crate) fn new(number: usize, workers: usize) -> Source {
         let batches = (SAMPLE_COUNT / BATCH).wrapping_mul(number as u64);
         Source {
             random: Random::new(number as u64),
@@ -89,7 +89,7 @@ impl Source {
     }
 
     /// The next batch of the samples.
-    fn next_batch<'s>(&mut self, samples: &'s [u32]) -> &'s [u32] {
+    pub(crate) fn next_batch<'s>(&mut self, samples: &'s [u32]) -> &'s [u32] {
         let first = self.sample as usize;
         self.sample = self.sample.wrapping_add(BATCH) % SAMPLE_COUNT;
         let (_, rest) = samples.split_at(first.min(samples.len()));
@@ -171,7 +171,7 @@ fn call_batch<R: Wait>(
 }
 
 /// Which keys a batch calls at.
-trait Pick {
+pub(crate) trait Pick {
     /// The key of the call of a turn, from 0 on, for which this number was drawn.
     fn key(&self, turn: u64, drawn: u64) -> Key;
 }
@@ -184,8 +184,8 @@ fn place_of(drawn: u64, count: u64) -> u32 {
 
 /// So many dense keys, each as likely.
 #[derive(Clone, Copy)]
-struct Dense {
-    count: u64,
+pub(crate) struct Dense {
+    pub(crate) count: u64,
 }
 
 impl Pick for Dense {
@@ -196,8 +196,8 @@ impl Pick for Dense {
 
 /// So many spread keys, each as likely.
 #[derive(Clone, Copy)]
-struct Spread {
-    count: u64,
+pub(crate) struct Spread {
+    pub(crate) count: u64,
 }
 
 impl Pick for Spread {
@@ -208,8 +208,8 @@ impl Pick for Spread {
 
 /// The dense keys with these places, one after another.
 #[derive(Clone, Copy)]
-struct Listed<'a> {
-    places: &'a [u32],
+pub(crate) struct Listed<'a> {
+    pub(crate) places: &'a [u32],
 }
 
 impl Pick for Listed<'_> {

@@ -3,6 +3,7 @@
 //! twice.
 #![tactic(auto)]
 
+pub(crate) mod callers;
 pub(crate) mod checks;
 pub(crate) mod churn;
 pub(crate) mod crew;

@@ -3,6 +3,7 @@ ghost use Rattle.std.specs.Prelude.{◌≡◌, ◌*◌, ◌-◌, ◌^◌, ◌<�
 ghost use Rattle.nb_core.specs.Plans.{HasRoomFor};
 ghost use Rattle.nb_core.specs.declared.shapes.TheConstants.{MAX_EXPONENT};
 
+use crate::callers::By;
 use crate::churn::keys_ever;
 use crate::keys::{Law, Spacing};
 use crate::workloads::{Plan, Workload};
@@ -27,6 +28,8 @@ pub(crate) struct Options {
     pub(crate) spacing: Spacing,
     /// How often each key is drawn, in `A`, `B` and `C`.
     pub(crate) law: Law,
+    /// What makes the calls of `A`, `B`, `C` and `E`.
+    pub(crate) by: By,
     /// In `A`, `B`, `C` and `E`, after how many calls a thread stops, rounded up to whole batches;
     /// in `D`, after how many puts of all threads no more rounds begin; in `G`, how many calls each
     /// thread makes in a round, if not `u64::MAX`.
@@ -184,6 +187,12 @@ pub(crate) const LINE: CommandLine = CommandLine {
                 zipf (dense, and in A to C some much more often)",
         },
         Argument {
+            form: Form::Text("--by", "WHAT"),
+            default: Some("seat"),
+            help: "In A to C and E: who calls, seat (of a map), handle (of a map) or guest \
+                (of a map without an end)",
+        },
+        Argument {
             form: Form::Number(CALLS, "N"),
             default: None,
             help: "In A to C and E: how many calls each thread makes, rounded up to 1024s; \
@@ -285,6 +294,16 @@ fn read_keys(alloc: Global, name: &str) -> Result<(Spacing, Law), WordsFault> {
     }
 }
 
+const NO_CALLER: &str = "none of seat, handle and guest";
+
+/// What is to call the map.
+fn read_by(alloc: Global, name: &str) -> Result<By, WordsFault> {
+    match By::named(name) {
+        Some(by) => Ok(by),
+        None => Err(wrong_word(alloc, "--by", name, NO_CALLER)),
+    }
+}
+
 /// A time in seconds, which may have a fraction.
 fn read_time(alloc: Global, text: &str) -> Result<Duration, WordsFault> {
     let time = match text.parse::<f64>() {
@@ -348,6 +367,7 @@ fn options_of(alloc: Global, given: &Given) -> Result<Options, WordsFault> {
         keys,
         spacing,
         law,
+        by: read_by(alloc, given.text("--by").unwrap_or("seat"))?,
         calls,
         puts,
         adds,

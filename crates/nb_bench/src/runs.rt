@@ -1,6 +1,8 @@
 //! Runs of the workloads whose calls are drawn.
 
-use crate::crew::do_job;
+use crate::callers;
+use crate::callers::By;
+use crate::crew::{Tally, do_job};
 use crate::draws::{BATCH, Calls, Draws};
 use crate::faults::BenchFault;
 use crate::keys::{Law, samples_of, shuffled};
@@ -66,9 +68,11 @@ pub(crate) fn measure<R: Threads + Sync + Wait + Clock + Eprint>(
         batches: options.calls.div_ceil(BATCH),
         progress: options.progress,
     };
-    let done = do_job(rt, alloc, options.shape()?, options.spacing, half, &job)?;
-    Ok(Measured {
-        calls: done.tally.calls,
-        nanoseconds: done.tally.nanoseconds,
-    })
+    let Tally {
+        calls, nanoseconds, ..
+    } = match options.by {
+        By::Seat => do_job(rt, alloc, options.shape()?, options.spacing, half, &job)?.tally,
+        By::Handle | By::Guest => callers::measure(rt, alloc, options, half, &job)?,
+    };
+    Ok(Measured { calls, nanoseconds })
 }

@@ -127,7 +127,7 @@ extern "C" {
 #define SAMVOLIP_FOR_KEYS_STEP 8
 #define SAMVOLIP_FOR_KEYS_STRIPES 16
 #define SAMVOLIP_FOR_KEYS_REPROBES 18
-#define SAMVOLIP_FOR_KEYS_CHUNK 256
+#define SAMVOLIP_FOR_KEYS_CHUNK 32
 
 /* What samvolip_shape_for_churn goes by: the least and the greatest exponent. */
 #define SAMVOLIP_CHURN_LEAST 9

@@ -31,7 +31,7 @@ const STEP: u32 = 8;
 const SHORT_PATH: u32 = 18;
 
 /// The chunk of a shape for so many keys.
-const KEYS_CHUNK: u32 = 256;
+const KEYS_CHUNK: u32 = 32;
 
 impl Shape {
     /// The shape for so many different keys, up to [`MOST_KEYS`], and 1 to [`MAX_SEATS`] seats;
@@ -41,8 +41,8 @@ impl Shape {
     ///
     /// Each table has a 256th of the slots of the next one, down to 16 at least, so that a growth
     /// copies little, and a map with few keys stays small in the cache. There is a stripe for each
-    /// seat, but no more than 16. Paths are kept short and chunks large, by the numbers that
-    /// measured best.
+    /// seat, but no more than 16. The reprobe limit is 18, and a chunk has 32 slots, by which the
+    /// longest put measured shortest.
     pub fn for_keys(most: usize, seats: usize) -> Result<Shape, ShapeFault>
         ensures shape { result ≡ checked_for_keys most seats }
         ensures room { IfOk result (λ p. HasRoomFor p most) }

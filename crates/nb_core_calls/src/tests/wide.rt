@@ -129,7 +129,7 @@ fn shapes_for_keys(rt: HostRuntime) {
         (MOST_KEYS, 256, &[4, 12, 20, 28]),
     ];
     for (most, seats, exponents) in rows {
-        let due = made(exponents, seats, seats.min(16), 18, 256);
+        let due = made(exponents, seats, seats.min(16), 18, 32);
         assert!(rt; Shape::for_keys(most, seats) == due, "for {most} keys");
     }
 }
