@@ -52,12 +52,13 @@ else
 fi
 registry=/usr/share/cargo/registry
 if command -v cargo > /dev/null && ls -d $registry/dashmap-* $registry/fxhash-* > /dev/null 2>&1; then
-    rm -f out/dash out/cargo/release/dash
+    rm -f out/dash out/lines out/cargo/release/dash out/cargo/release/lines
     built dash env RUSTFLAGS='-C target-cpu=x86-64-v2' cargo build --release --offline --quiet \
         --manifest-path rust/Cargo.toml --target-dir out/cargo \
         --config 'source.crates-io.replace-with="debian"' --config "source.debian.directory=\"$registry\""
-    if [ -f out/cargo/release/dash ]; then cp out/cargo/release/dash out/dash; fi
+    for peer in dash lines; do if [ -f out/cargo/release/$peer ]; then cp out/cargo/release/$peer out/$peer; fi; done
 else
+    rm -f out/lines
     left_out dash 'librust-dashmap-dev, librust-fxhash-dev or cargo'
 fi
 exit $status
