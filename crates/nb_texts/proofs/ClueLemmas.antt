@@ -1,9 +1,9 @@
 -- Clues to lines, and the readers that found them.
 use Rattle.std.proofs.Common.{◌≡◌, ◌≢◌, ◌∙◌, ℕ, true, false, List, [], ◌∷◌, ◌++◌, All, Option, Some, ap, append-nil, append_assoc, map, refl, reverse, subst, subst₂, sym}
 use Rattle.std.specs.List.{AllZip}
-use Rattle.std.specs.Prelude.{slice_get}
+use Rattle.std.specs.Prelude.{Contains, slice_get}
 use Rattle.std.proofs.lemmas.List.{map-append, reverse-append}
-use Rattle.std.proofs.lemmas.List.Elements.{All-append, All-cons, All-head, All-nil, All-push, All-tail}
+use Rattle.std.proofs.lemmas.List.Elements.{All-append, All-cons, All-head, All-nil, All-push, All-tail, All-weaker, Contains-append_left, Contains-append_right}
 use Rattle.nb_core.specs.Plans.{Plan}
 use Rattle.nb_map.proofs.Theorems.{asks_add_up, logs_add_up}
 use Rattle.nb_map.specs.Bulk.{read_as}
@@ -15,6 +15,7 @@ use Rattle.nb_texts.specs.Claims.{HasClaimedBy}
 use Rattle.nb_texts.specs.Clues.{AreCluesTo, AreFound, ArePartedFrom, HasOnlyLooked, IsClueTo}
 use Rattle.nb_texts.specs.Entering.{HasEntered, HasNoRoomFor}
 use Rattle.nb_texts.specs.Hashes.{key_for}
+use Rattle.nb_texts.specs.Lines.{HaveGrownBy}
 use Rattle.nb_texts.specs.declared.clues.Clue.TheVariants.{Hash, Place}
 use Rattle.nb_texts.specs.declared.clues.Clue.{Clue}
 use Rattle.nb_texts.specs.declared.clues.Found.{Found}
@@ -221,6 +222,7 @@ pub record HasEnteredSoFar
   pub clued : AreCluesTo hashing texts left clues
   pub more : List (List ℕ)
   pub grown : texts' ≡ texts ++ more
+  pub some : All (Contains lines) more
   pub done : List (List ℕ)
   pub are : lines ≡ done ++ left
   pub entered : HasEntered p (key_for hashing) before now texts texts' done
@@ -234,6 +236,7 @@ entering-begun p hashing m seat texts lines clues places mine clued none = recor
   clued = clued;
   more = [];
   grown = sym (append-nil texts);
+  some = All-nil (Contains lines);
   done = [];
   are = refl;
   entered = entered-none p (key_for hashing) m seat texts mine;
@@ -262,23 +265,45 @@ module _
       clue-stays hashing texts so_far.more texts' line clue so_far.grown
       (subst (λ line. IsClueTo hashing texts line clue) is next.right)
 
+  -- the texts are there still,
+  pub entering-kept : HaveGrownBy lines texts texts'
+  entering-kept = (so_far.more, so_far.grown, so_far.some)
+
+  -- also with the next line
+  pub entering-grown :
+      (line : List ℕ) (left' texts'' : List (List ℕ)) → left ≡ line ∷ left'
+      → HaveGrownBy (line ∷ []) texts' texts'' → HaveGrownBy lines texts texts''
+  entering-grown line left' texts'' split (more, grown, some) =
+      let among : (other : List ℕ) → Contains (line ∷ []) other → Contains lines other
+      = λ other there.
+      subst (λ lines. Contains lines other) (sym (so_far.are ∙ ap (λ left. so_far.done ++ left) split))
+      (Contains-append_right so_far.done (line ∷ left') other
+      (Contains-append_left (line ∷ []) left' other there)) in (
+        so_far.more ++ more,
+        grown ∙ ap (λ texts. texts ++ more) so_far.grown ∙ append_assoc texts so_far.more more,
+        All-append (Contains lines) so_far.more more so_far.some
+            (All-weaker (Contains (line ∷ [])) (Contains lines) among more some),
+      )
+
   -- one more line is entered
   pub entering-more :
       (clue : Clue) (rest : List Clue) (line : List ℕ) (left' : List (List ℕ)) (next : SeatOf)
-      (texts'' more : List (List ℕ)) (places' : List ℕ) (place : ℕ)
+      (texts'' : List (List ℕ)) (places' : List ℕ) (place : ℕ)
       → clues ≡ clue ∷ rest → left ≡ line ∷ left'
-      → HasEntered p (key_for hashing) now next texts' texts'' (line ∷ []) → texts'' ≡ texts' ++ more
-      → slice_get texts'' place ≡ Some line → places' ≡ places ++ place ∷ []
+      → HasEntered p (key_for hashing) now next texts' texts'' (line ∷ [])
+      → HaveGrownBy (line ∷ []) texts' texts'' → slice_get texts'' place ≡ Some line
+      → places' ≡ places ++ place ∷ []
       → HasEnteredSoFar p hashing before next texts texts'' lines left' rest places'
-  entering-more clue rest line left' next texts'' more places' place are split entered grown at pushed =
+  entering-more clue rest line left' next texts'' places' place are split entered grown at pushed =
       let clued = next-clue hashing texts left clue rest (subst (AreCluesTo hashing texts left) are so_far.clued) in
       let same : clued.line ∷ clued.lines ≡ line ∷ left' = sym clued.is ∙ split in
       let lines' : clued.lines ≡ left' = cc in
+      let all = entering-grown line left' texts'' split grown in
       record {
         clued = subst (λ lines. AreCluesTo hashing texts lines rest) lines' clued.rest;
-        more = so_far.more ++ more;
-        grown =
-            grown ∙ ap (λ texts. texts ++ more) so_far.grown ∙ append_assoc texts so_far.more more;
+        more = all.0;
+        grown = all.1;
+        some = all.2;
         done = so_far.done ++ line ∷ [];
         are =
             so_far.are ∙ ap (λ left. so_far.done ++ left) split
@@ -288,7 +313,8 @@ module _
             (line ∷ []) so_far.entered entered;
         placed =
             ap (map (slice_get texts'')) pushed
-            ∙ places-more texts' texts'' more places so_far.done place line grown so_far.placed at;
+            ∙ places-more texts' texts'' grown.0 places so_far.done place line grown.1 so_far.placed
+            at;
       }
 
   -- or it finds no room

@@ -1,8 +1,10 @@
 -- The lines of a text.
-use Rattle.std.proofs.Common.{◌≡◌, ◌≢◌, ◌∙◌, ◌<◌, ◌==◌, ◌+◌, ℕ, zero, suc, Bool, true, false, cond, if◌then◌else◌, List, [], ◌∷◌, ◌++◌, ap, append-nil, append_assoc, arith, drop, inl, inr, length, refl, slice_index, sym, take}
+use Rattle.std.proofs.Common.{◌≡◌, ◌≢◌, ◌∙◌, ◌<◌, ◌≤◌, ◌==◌, ◌+◌, ℕ, zero, suc, Bool, true, false, cond, if◌then◌else◌, List, [], ◌∷◌, ◌++◌, ap, append-nil, append_assoc, arith, drop, inl, inr, length, length-append, refl, slice_index, sym, take}
 use Rattle.std.proofs.lemmas.Bool.{cases_Bool, eq-eqb, ne_eqb}
 use Rattle.std.proofs.lemmas.List.{take-append-drop, take_more}
-use Rattle.nb_texts.specs.Lines.{is_among, lines_in, onto, with_new_lines}
+use Rattle.std.proofs.lemmas.List.Elements.{All-contains_itself, All-nil}
+use Rattle.std.specs.Prelude.{Contains}
+use Rattle.nb_texts.specs.Lines.{HaveGrownBy, is_among, lines_in, onto, with_new_lines}
 
 -- ---- the first line
 
@@ -103,3 +105,30 @@ with-grows known (line ∷ lines) = elim (cases_Bool (is_among line known)) [
       let rest = with-grows (known ++ line ∷ []) lines in
       (line ∷ rest.0, rw new (rest.1 ∙ append_assoc known (line ∷ []) rest.0))
 ]
+
+-- none goes,
+pub with-longer : (known lines : List (List ℕ)) → length known ≤ length (with_new_lines known lines)
+with-longer known lines =
+    let rest = with-grows known lines in
+    omega (arith, ap length rest.1, length-append known rest.0)
+
+-- and no more come than there are lines
+pub with-few :
+    (known lines : List (List ℕ)) → length (with_new_lines known lines) ≤ length known + length lines
+with-few known [] = omega arith
+with-few known (line ∷ lines) = elim (cases_Bool (is_among line known)) [
+  | inl old ↦ rw old (omega (arith, with-few known lines))
+  | inr new ↦
+      rw new (omega (arith, with-few (known ++ line ∷ []) lines, length-append known (line ∷ [])))
+]
+
+-- ---- texts that stay
+
+pub grown-none : (lines texts texts' : List (List ℕ)) → texts' ≡ texts → HaveGrownBy lines texts texts'
+grown-none lines texts texts' same =
+    ([], same ∙ sym (append-nil texts), All-nil (Contains lines))
+
+pub grown-push :
+    (line : List ℕ) (texts texts' : List (List ℕ)) → texts' ≡ texts ++ line ∷ []
+    → HaveGrownBy (line ∷ []) texts texts'
+grown-push line texts texts' pushed = (line ∷ [], pushed, All-contains_itself (line ∷ []))

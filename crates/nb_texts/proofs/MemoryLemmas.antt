@@ -1,8 +1,10 @@
 -- How many bytes lines take.
 use Rattle.std.proofs.Common.{◌≡◌, ◌∙◌, ◌+◌, ◌*◌, ◌<◌, ◌≤◌, ◌==◌, ℕ, suc, Bool, true, false, cond, List, [], ◌∷◌, ◌++◌, None, Option, Some, ap, arith, inl, inr, length, length-append, mul-add, mul-le-mul_left, mul-one, mul-suc, refl, sym}
-use Rattle.std.specs.Prelude.{sum_by}
+use Rattle.std.specs.Prelude.{min, sum_by}
 use Rattle.std.proofs.lemmas.Bool.{cases_Bool}
 use Rattle.std.proofs.lemmas.List.Sums.{sum_by-append, sum_by-cons}
+use Rattle.nb_core.specs.declared.shapes.TheConstants.{MOST_KEYS}
+use Rattle.nb_texts.proofs.LinesLemmas.{with-few}
 use Rattle.nb_texts.specs.Lines.{is_among, lines_in, onto, with_new_lines}
 use Rattle.nb_texts.specs.Memory.{KeepsTo, TellsWhetherFits, bytes_of_texts, load_of, most_bytes_with}
 use Rattle.nb_texts.specs.declared.catalog.Catalog.{Catalog}
@@ -102,3 +104,12 @@ over-with limit catalog load text many bytes over = of (length (lines_in text)) 
         (n m : ℕ) → load.lines ≡ n → load.bytes ≡ m
         → limit.bytes < most_bytes_with limit.each catalog (record { lines = n; bytes = m })
     of n m many bytes = rw (sym many, sym bytes) over
+
+-- ---- room
+
+-- where room was made for so many more lines, and is too little, no map has room for so many texts
+pub no-more-room :
+    (texts lines : List (List ℕ)) (many room : ℕ) → length lines ≤ many
+    → min (length texts + many) MOST_KEYS ≤ room → room < length (with_new_lines texts lines)
+    → MOST_KEYS < length (with_new_lines texts lines)
+no-more-room texts lines many room few made past = omega (arith, few, made, past, with-few texts lines)

@@ -1,7 +1,8 @@
 -- An input is read block after block, each of whole lines.
-use Rattle.std.proofs.Common.{◌≡◌, ◌∙◌, ◌≤◌, ℕ, Bool, false, List, [], ◌++◌, None, Option, Some, IfSome, ap, append-nil, append_assoc, arith, drop, length, length-append, refl, subst, sym, take}
+use Rattle.std.proofs.Common.{◌≡◌, ◌∙◌, ◌<◌, ◌≤◌, ℕ, Bool, false, List, [], ◌++◌, None, Option, Some, IfSome, ap, append-nil, append_assoc, arith, drop, length, length-append, refl, subst, sym, take}
 use Rattle.std.proofs.lemmas.List.{drop_at, take_at}
-use Rattle.nb_texts.specs.Lines.{lines_in}
+use Rattle.nb_texts.proofs.LinesLemmas.{with-append, with-longer}
+use Rattle.nb_texts.specs.Lines.{distinct, lines_in, with_new_lines}
 use Rattle.nb_texts.specs.Sources.{HasCut}
 
 -- what is known of an input, where it is known
@@ -74,3 +75,27 @@ reading-next (Some input) now next lines rest rest' block some taken many (left,
       rest' ++ here.0,
       ap (drop taken) same ∙ drop_at lines (lines_in (rest ++ left)) taken (sym many) ∙ here.2,
     )
+
+-- the input has no fewer lines than were read,
+pub reading-many :
+    (known now : Option (List ℕ)) (lines : List (List ℕ)) (rest : List ℕ) (most : ℕ)
+    → most ≤ length lines → IsReading known now lines rest
+    → IfSome known (λ input. most ≤ length (lines_in input))
+reading-many None now lines rest most many reading = tt
+reading-many (Some input) now lines rest most many (left, is, same) =
+    omega (arith, many, ap length same, length-append lines (lines_in (rest ++ left)))
+
+-- and no fewer distinct ones, also of what is taken of each line
+pub reading-distinct :
+    (f : List (List ℕ) → List (List ℕ))
+    → ((lines more : List (List ℕ)) → f (lines ++ more) ≡ f lines ++ f more)
+    → (known now : Option (List ℕ)) (lines : List (List ℕ)) (rest : List ℕ) (most : ℕ)
+    → most < length (distinct (f lines)) → IsReading known now lines rest
+    → IfSome known (λ input. most < length (distinct (f (lines_in input))))
+reading-distinct f append None now lines rest most many reading = tt
+reading-distinct f append (Some input) now lines rest most many (left, is, same) =
+    let more = lines_in (rest ++ left) in
+    let all : distinct (f (lines_in input)) ≡ with_new_lines (distinct (f lines)) (f more)
+    = ap (λ lines. distinct (f lines)) same ∙ ap distinct (append lines more)
+    ∙ with-append [] (f lines) (f more) in
+    omega (arith, many, ap length all, with-longer (distinct (f lines)) (f more))

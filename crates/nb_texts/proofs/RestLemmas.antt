@@ -2,11 +2,13 @@
 use Rattle.std.proofs.Common.{◌≡◌, ◌∙◌, ◌<◌, ◌≤◌, ◌+◌, ◌-◌, ◌==◌, ◌⊎◌, ℕ, Bool, true, false, cond, List, [], ◌∷◌, ◌++◌, All, None, Option, Some, ap, arith, inl, inr, is_some, length, length-append, map, refl, reverse, subst, sym}
 use Rattle.std.specs.FinMap.{entries, get, len}
 use Rattle.std.specs.List.{AllZip, count_by}
-use Rattle.std.proofs.lemmas.Bool.{cases_Bool, eq-eqb, eqb-true}
-use Rattle.std.proofs.lemmas.List.{append_assoc, append_cancel_right, reverse-reverse}
+use Rattle.std.proofs.lemmas.Bool.{cases_Bool, cases_eq, eq-eqb, eqb-true}
+use Rattle.std.proofs.lemmas.List.{append_assoc, append_cancel_right, length-map, reverse-reverse}
 use Rattle.std.proofs.lemmas.List.Elements.{All-append, All-cons, All-head, All-nil, All-tail, All-weaker}
+use Rattle.std.proofs.lemmas.List.FromFn.{length-range_with_len}
 use Rattle.std.proofs.lemmas.List.Sorted.{All-permutation, IsPermutation-reverse}
 use Rattle.std.proofs.lemmas.List.Sums.{sum_by-cons}
+use Rattle.std.proofs.lemmas.Slice.Zip.{AllZip-long}
 use Rattle.nb_core.proofs.Seating.{All-left, All-right, All-unmap, count-map}
 use Rattle.nb_core.proofs.Theorems.{calls_append}
 use Rattle.nb_core.specs.Log.{Entry, IsReplayed, Numbers, calls_of, log_of, map_after, map_of_log, reply_of}
@@ -19,12 +21,13 @@ use Rattle.nb_map.specs.Bulk.{put_entry}
 use Rattle.nb_map.specs.Crowding.{HasAskedFor, HasAskedIn, IsFilled}
 use Rattle.nb_map.specs.Ending.{EndedOf, EndedWith, HasAll, log_left, map_left}
 use Rattle.nb_map.specs.Entries.{IsRead}
-use Rattle.nb_map.specs.Handles.{HandleOf, IsSameMap, KeepsRest, all_seats, seats_of}
+use Rattle.nb_map.specs.Handles.{HandleOf, IsSameMap, IsWhole, KeepsRest, all_seats, seats_of}
 use Rattle.nb_map.specs.Logs.{HasLogged, log}
 use Rattle.nb_map.specs.Maps.{MapOf, SeatOf}
 use Rattle.nb_map.specs.NamedCalls.{put_if_absent_of}
 use Rattle.nb_map.specs.OneSeat.{held}
-use Rattle.nb_map.specs.Renewing.{HasRenewed}
+use Rattle.nb_map.specs.Opening.{IsTooSmallFor}
+use Rattle.nb_map.specs.Renewing.{HasRenewed, HasTooMany}
 use Rattle.nb_map.specs.Settling.{HasCaughtUp, HaveSettled, as_left}
 use Rattle.nb_table.specs.Chains.{SeenBy}
 use Rattle.nb_table.specs.Views.{HasSeen}
@@ -35,7 +38,7 @@ use Rattle.nb_texts.specs.Entering.{AreReplayed, HasEntered, HasNoSlot, HasNoRoo
 use Rattle.nb_texts.specs.Lines.{is_among, with_new_lines}
 use Rattle.nb_texts.proofs.ClaimLemmas.{claims-caught, claims-weaker, filled-later, has-filled, others-few, puts-fill}
 use Rattle.nb_texts.proofs.ClueLemmas.{zip-all}
-use Rattle.nb_texts.proofs.LinesLemmas.{with-append, with-grows}
+use Rattle.nb_texts.proofs.LinesLemmas.{with-append, with-longer}
 
 -- ---- what a seat has made since a log
 
@@ -229,6 +232,24 @@ renewed-claims p before after renewed =
     ∙ begun.leaves in
     subst (λ m. All (ClaimsOnly after.map.chain.shape m) (seats_of after)) (sym whole) begun.claimed
 
+-- it has all of them
+pub renewed-whole : (p : Plan) (before after : HandleOf) → HasRenewed p before after → IsWhole after
+renewed-whole p before after renewed =
+    sym (length-map (seats_of after) (λ (seat : SeatOf). seat.chain.number))
+    ∙ ap length renewed.begun.begun.numbered ∙ length-range_with_len 0 after.map.chain.shape.seats
+
+-- the keys that are too many for it are those of the old one
+pub too-small :
+    (p : Plan) (before : HandleOf) → HaveOneLog before → HasTooMany p before
+    → IsTooSmallFor p (held before.seat)
+too-small p before logs many =
+    let base = log before.seat in
+    let told = gathered-told base [] before.seat before.reserve many.ended many.left
+    (record { later = []; is = refl; calls = refl })
+    (All-weaker (λ (seat : SeatOf). log seat ≡ base) (HasReadSince base) (read-nothing base)
+    before.reserve logs) in
+    subst (IsTooSmallFor p) told.1 many.small
+
 -- ---- lines were entered while others looked
 
 -- What holds of the seats in reserve holds still of those that stayed, and as readers leave it of
@@ -296,6 +317,20 @@ caught-up m whole (s ∷ before) [] each = absurd each
 caught-up m whole (s ∷ before) (s' ∷ after) (here, rest) =
     All-cons (λ (seat : SeatOf). log seat ≡ whole) s' after here.knows
     (caught-up m whole before after rest)
+
+-- all seats that settle are there still
+pub settled-whole :
+    {size : ℕ} (before after : HandleOf) → IsSameMap before after
+    → HaveSettled before.map (seats_of before) (seats_of after) size
+    → ((IsWhole before → ⊥) → ⊥) → IsWhole after
+settled-whole before after same settled whole =
+    let m = before.map in
+    let many = AllZip-long (HasCaughtUp m (log_of settled.tables.history)) (seats_of before)
+    (seats_of after) settled.each in
+    elim (cases_eq (length (seats_of before)) m.chain.shape.seats) [
+      | inl all ↦ many ∙ all ∙ ap (λ (m : MapOf). m.chain.shape.seats) (sym same)
+      | inr missing ↦ absurd (whole missing)
+    ]
 
 -- A handle was parted into readers, its seat has made these calls while they looked, and all seats
 -- are gathered.
@@ -509,16 +544,11 @@ entered-gathered keys before last texts texts' lines logs parted after entered d
 
 -- ---- a line found no room
 
-longer : (known lines : List (List ℕ)) → length known ≤ length (with_new_lines known lines)
-longer known lines =
-    let rest = with-grows known lines in
-    omega (arith, ap length rest.1, length-append known rest.0)
-
 longer-new :
     (known : List (List ℕ)) (line : List ℕ) (left : List (List ℕ)) → is_among line known ≡ false
     → length known < length (with_new_lines known (line ∷ left))
 longer-new known line left new =
-    rw new (omega (arith, longer (known ++ line ∷ []) left, length-append known (line ∷ [])))
+    rw new (omega (arith, with-longer (known ++ line ∷ []) left, length-append known (line ∷ [])))
 
 -- where other keys have all slots that a key might take, there are more than so many texts with the
 -- line
@@ -535,7 +565,7 @@ past-room known line left m key room few count new = of (get m key) refl
         omega (arith, few, one, count, longer-new known line left (new at))
     of (Some v) at =
         let one = ap {B = ℕ} (λ o. cond (is_some o) 1 0) at in
-        omega (arith, few, one, count, longer known (line ∷ left))
+        omega (arith, few, one, count, with-longer known (line ∷ left))
 
 -- so with all lines there are more texts than the map had room for
 pub stopped-gathered :
@@ -585,6 +615,6 @@ stopped-gathered keys before last texts lines room logs parted after stopped gat
             most_keys,
             whole told.1,
             many.1 (held before.seat) all.1 index,
-            longer known rest,
+            with-longer known rest,
           )
     ]

@@ -4,7 +4,7 @@ use Rattle.std.specs.Prelude.{Contains, count_by, slice_get, slice_index}
 use Rattle.std.proofs.lemmas.Bool.{cases_Bool, cases_lt, eq-eqb, eqb-true, or_left, or_right}
 use Rattle.std.proofs.lemmas.List.{get_or_default, get_or_past, length-map, same_lists, take-append-drop}
 use Rattle.std.proofs.lemmas.List.Elements.{All-cons, All-head, All-nil, All-tail, Contains-get_or}
-use Rattle.std.proofs.lemmas.List.Sums.{count_by_more_yes, sum_by-append, sum_by-cons}
+use Rattle.std.proofs.lemmas.List.Sums.{count_by-le-length, count_by_more_yes, sum_by-append, sum_by-cons}
 use Rattle.std.proofs.lemmas.Option.{slice_get_within}
 use Rattle.std.proofs.lemmas.Slice.Eq.{bytes_eq-Decides}
 use Rattle.core.specs.Str.{bytes_eq}
@@ -283,6 +283,12 @@ module _
         let new = places-times texts' places block q found.0
         (all-once lines texts block texts' counts tally entered) found.1 are in
         (found.0, found.2, omega (arith, over, same, old, new, times-append found.0 lines block))
+
+-- there are as many lines as one that comes too often
+pub often-many :
+    (lines block : List (List ℕ)) → ComesTooOften lines block → 2 ^ 64 ≤ length (lines ++ block)
+often-many lines block often =
+    omega (arith, often.2, count_by-le-length (bytes_eq often.0) (lines ++ block))
 
 module _
     (lines texts block texts' : List (List ℕ)) (counts counts' places : List ℕ)

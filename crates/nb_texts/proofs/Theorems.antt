@@ -1,5 +1,6 @@
 -- The lemmas that crates above may rest on.
 pub use Rattle.nb_texts.proofs.LinesLemmas.{with-append, with-grows}
-pub use Rattle.nb_texts.proofs.MemoryLemmas.{kept-more, kept-none, over-with, unlimited}
-pub use Rattle.nb_texts.proofs.ReadingLemmas.{IsReading, on-known, reading-begun, reading-ended, reading-first, reading-more, reading-next}
+pub use Rattle.nb_texts.proofs.MemoryLemmas.{kept-more, kept-none, no-more-room, over-with, unlimited}
+pub use Rattle.nb_texts.proofs.ReadingLemmas.{IsReading, on-known, reading-begun, reading-distinct, reading-ended, reading-first, reading-many, reading-more, reading-next}
 pub use Rattle.nb_texts.proofs.SourceLemmas.{none-in-line}
+pub use Rattle.nb_texts.proofs.TallyLemmas.{often-many}

@@ -1,5 +1,5 @@
 -- The lines of a text, and the distinct ones among them.
-use Rattle.std.specs.Prelude.{ℕ, Bool, ◌==◌, List, [], ◌∷◌, ◌++◌, if◌then◌else◌}
+use Rattle.std.specs.Prelude.{◌≡◌, ℕ, All, Bool, Contains, ◌==◌, List, [], ◌∷◌, ◌++◌, if◌then◌else◌}
 use Rattle.std.specs.List.{flat_map, list_any}
 use Rattle.core.specs.Str.{bytes_eq}
 
@@ -30,3 +30,8 @@ with_new_lines known (line ∷ lines) =
 -- the distinct lines, in the order of their first coming
 abbrev pub distinct : List (List ℕ) → List (List ℕ)
 distinct lines = with_new_lines [] lines
+
+-- the texts are there still, and behind them come some of these lines
+abbrev pub HaveGrownBy : (lines texts texts' : List (List ℕ)) → Type 0
+HaveGrownBy lines texts texts' =
+    (more : List (List ℕ)) × (texts' ≡ texts ++ more) × All (Contains lines) more

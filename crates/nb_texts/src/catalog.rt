@@ -1,5 +1,5 @@
 //! A catalog: the distinct lines of a stream, found by their hashes in a map.
-ghost use Rattle.std.specs.Prelude.{◌≡◌, ◌+◌, ◌^◌, ◌≤◌, ◌<◌, ◌↔◌, ◌⊎◌, ◌++◌, [], ◌∷◌, ℕ, All, IfErr, IfOk, IsOkUnless, IsTrue, List, MatchOption, None, OnErr, OnOk, Some, drop, length, map, min, slice_get, sum_by};
+ghost use Rattle.std.specs.Prelude.{◌≡◌, ◌+◌, ◌^◌, ◌≤◌, ◌<◌, ◌↔◌, ◌++◌, [], ◌∷◌, ℕ, All, IfErr, IfOk, IsOkUnless, IsTrue, MatchOption, None, OnErr, OnOk, Some, drop, length, map, min, slice_get, sum_by};
 ghost use Rattle.std.specs.Bool.{OnFalse, OnTrue};
 ghost use Rattle.nb_core.specs.Meaning.{IsCrowded};
 ghost use Rattle.nb_core.specs.Plans.{HasRoomFor};
@@ -9,15 +9,15 @@ ghost use Rattle.nb_map.specs.Handles.{IsSameMap, IsWhole, KeepsRest, all_seats,
 ghost use Rattle.nb_map.specs.Logs.{HasFound, HasLogged};
 ghost use Rattle.nb_map.specs.NamedCalls.{put_if_absent_of};
 ghost use Rattle.nb_map.specs.OneSeat.{held};
-ghost use Rattle.nb_map.specs.Renewing.{HasTooMany};
+ghost use Rattle.nb_map.specs.Opening.{IsTooSmallFor};
 ghost use Rattle.nb_map.specs.Settling.{HaveSettled};
-ghost use Rattle.nb_texts.specs.Catalogs.{CannotRenew, HaveClaimed, HaveOneLog, IsNoRoom};
+ghost use Rattle.nb_texts.specs.Catalogs.{HaveClaimed, HaveOneLog, IsNoRoom};
 ghost use Rattle.nb_texts.specs.Claims.{HasClaimedBy};
 ghost use Rattle.nb_texts.specs.Clues.{AreCluesTo, ArePartedFrom, IsClueTo};
 ghost use Rattle.nb_texts.specs.Entering.{HasEntered, HasNoRoomFor};
 ghost use Rattle.nb_texts.specs.Hashes.{hash_of, key_for};
-ghost use Rattle.nb_texts.specs.Lines.{lines_in, text_of_lines, with_new_lines};
-ghost use Rattle.nb_texts.specs.Memory.{bytes_to_make, lines_with, shape_with_room, widened};
+ghost use Rattle.nb_texts.specs.Lines.{HaveGrownBy, lines_in, text_of_lines, with_new_lines};
+ghost use Rattle.nb_texts.specs.Memory.{bytes_to_make, shape_with_room, widened};
 
 use crate::clues::{Clue, Found, found_by};
 use crate::hashing::{Hashing, key_after};
@@ -108,15 +108,14 @@ impl Catalog {
     }
 
     /// Makes the map anew where it might not have room for so many more lines: afterwards it has, or
-    /// has room for as many as any map can have.
+    /// has room for as many as any map can have. It is full only with more lines than that.
     pub fn make_room(&mut self, alloc: Global, lines: usize) -> Result<(), ProgramFault>
         requires rest { IsAtRest self.old }
         ensures rest { OnOk result (IsAtRest self.new) }
         ensures room { OnOk result (min (length self.new.texts + lines) MOST_KEYS ≤ self.new.room) }
         ensures same { self.new.texts ≡ self.old.texts }
         ensures errors { IfErr result IsNoRoom }
-        ensures full { result ≡ Err fault.FullOfLines
-            → CannotRenew (min (length self.old.texts + lines) MOST_KEYS) self.old.handle }
+        ensures full { result ≡ Err fault.FullOfLines → MOST_KEYS < length self.old.texts }
     {
         let needed = self.texts.len().saturating_add(lines);
         if needed.min(MOST_KEYS) <= self.room {
@@ -141,8 +140,7 @@ impl Catalog {
         ensures fits { IfOk result (TellsWhetherFits limit self.new block) }
         ensures back { IfOk result (λ fits. OnFalse fits (self.new ≡ self.old)) }
         ensures errors { IfErr result IsNoRoom }
-        ensures full { result ≡ Err fault.FullOfLines
-            → CannotRenew (lines_with self.old block) self.old.handle }
+        ensures full { result ≡ Err fault.FullOfLines → MOST_KEYS < length self.old.texts }
     {
         match limit {
             Some(limit) => self.make_room_in(alloc, limit, block),
@@ -168,8 +166,7 @@ impl Catalog {
         ensures fits { IfOk result (TellsWhetherFits (Some limit) self.new block) }
         ensures back { IfOk result (λ fits. OnFalse fits (self.new ≡ self.old)) }
         ensures errors { IfErr result IsNoRoom }
-        ensures full { result ≡ Err fault.FullOfLines
-            → CannotRenew (lines_with self.old block) self.old.handle }
+        ensures full { result ≡ Err fault.FullOfLines → MOST_KEYS < length self.old.texts }
     {
         let words = self.handle.shape().words();
         let Some(left) = left_beside(limit, self.load(), block, words) else {
@@ -206,7 +203,7 @@ impl Catalog {
         ensures same { self.new.texts ≡ self.old.texts }
         ensures shape { OnOk result (self.new.handle.map.chain.shape ≡ shape_with_room room) }
         ensures errors { IfErr result IsNoRoom }
-        ensures full { result ≡ Err fault.FullOfLines → CannotRenew room self.old.handle }
+        ensures full { result ≡ Err fault.FullOfLines → room < length self.old.texts }
     {
         renew(alloc, &mut self.handle, shape_for(room))?;
         self.room = room;
@@ -216,7 +213,7 @@ impl Catalog {
     /// Enters the lines of a block, in their order, and answers their places. Several workers hash
     /// them, and look them up; then one enters those that weren't found. For each line that isn't
     /// there yet the map needs room: it is full only where, with all of them, there are more lines
-    /// than it has room for.
+    /// than it has room for. The lines that were there stay also where it is refused.
     pub fn enter<R: Threads + Sync + Wait>(
         &mut self,
         rt: &R,
@@ -231,6 +228,7 @@ impl Catalog {
         ensures places { IfOk result (λ places. map (slice_get self.new.texts) places.items
             ≡ map Some (lines_in block.now)) }
         ensures map { OnOk result (self.new.handle.map ≡ self.old.handle.map) }
+        ensures grown { HaveGrownBy (lines_in block.now) self.old.texts self.new.texts }
         ensures errors { IfErr result IsNoRoom }
         ensures full { result ≡ Err fault.FullOfLines
             → self.old.room < length (with_new_lines self.old.texts (lines_in block.now)) }
@@ -309,18 +307,20 @@ fn can_make(left: usize, entries: usize, room: usize) -> bool
 /// Makes a map anew.
 fn renew(alloc: Global, handle: &mut Handle, shape: Shape) -> Result<(), ProgramFault>
     requires logs { HaveOneLog handle.old }
+    requires whole { IsWhole handle.old }
     ensures logs { OnOk result (HaveOneLog handle.new) }
+    ensures whole { OnOk result (IsWhole handle.new) }
     ensures same { OnOk result (held handle.new.seat ≡ held handle.old.seat) }
     ensures claims { OnOk result (HaveClaimed handle.new) }
     ensures shape { OnOk result (handle.new.map.chain.shape ≡ shape) }
-    ensures full { result ≡ Err fault.FullOfLines
-        → HasTooMany shape handle.old ⊎ (IsWhole handle.old → ⊥) }
+    ensures full { result ≡ Err fault.FullOfLines → IsTooSmallFor shape (held handle.old.seat) }
     ensures errors { IfErr result IsNoRoom }
 {
     match handle.renew(alloc, shape) {
         Ok(()) => Ok(()),
         Err(RenewFault::OutOfMemory) => Err(ProgramFault::OutOfMemory),
-        Err(RenewFault::Full | RenewFault::NotAll) => Err(ProgramFault::FullOfLines),
+        Err(RenewFault::Full) => Err(ProgramFault::FullOfLines),
+        Err(RenewFault::NotAll) => unreachable!(),
     }
 }
 
@@ -355,6 +355,7 @@ fn gather(alloc: Global, handle: &mut Handle, readers: Vec<Handle>) -> Result<()
     ensures settled { OnOk result ((size : ℕ) × HaveSettled handle.old.map
         (handle.old.seat ∷ handle.old.reserve ++ all_seats readers.items)
         (seats_of handle.new) size) }
+    ensures whole { OnOk result (IsWhole handle.new) }
 {
     let Ok(()) = handle.join_all(readers) else {
         return Err(OutOfMemory);
@@ -367,6 +368,7 @@ fn settled(alloc: Global, handle: &mut Handle) -> Result<(), OutOfMemory>
     ensures map { IsSameMap handle.old handle.new }
     ensures settled { OnOk result ((size : ℕ) × HaveSettled handle.old.map (seats_of handle.old)
         (seats_of handle.new) size) }
+    ensures whole { OnOk result (IsWhole handle.new) }
 {
     match handle.settle(alloc) {
         Ok(_size) => Ok(()),
@@ -391,6 +393,7 @@ fn enter_lines<R: Wait>(
         handle.old.seat handle.new.seat texts.old texts.new (lines_in block.now)) }
     ensures full { result ≡ Err fault.FullOfLines → HasNoRoomFor handle.old.map.chain.shape
         (key_for hashing) handle.old.seat handle.new.seat texts.old (lines_in block.now) }
+    ensures grown { HaveGrownBy (lines_in block.now) texts.old texts.new }
     ensures places { IfOk result (λ places. map (slice_get texts.new) places.items
         ≡ map Some (lines_in block.now)) }
     ensures errors { IfErr result IsNoRoom }
@@ -422,7 +425,7 @@ fn enter_by<R: Wait>(
         handle.old.seat handle.new.seat texts.old texts.new (line.now ∷ [])) }
     ensures full { result ≡ Err fault.FullOfLines → HasNoRoomFor handle.old.map.chain.shape
         (key_for hashing) handle.old.seat handle.new.seat texts.old (line.now ∷ []) }
-    ensures grown { OnOk result ((more : List (List ℕ)) × (texts.new ≡ texts.old ++ more)) }
+    ensures grown { HaveGrownBy (line.now ∷ []) texts.old texts.new }
     ensures placed { IfOk result (λ place. slice_get texts.new place ≡ Some line.now) }
     ensures errors { IfErr result IsNoRoom }
 {
@@ -448,7 +451,7 @@ fn enter_line<R: Wait>(
         handle.old.seat handle.new.seat texts.old texts.new (line.now ∷ [])) }
     ensures full { result ≡ Err fault.FullOfLines → HasNoRoomFor handle.old.map.chain.shape
         (key_for hashing) handle.old.seat handle.new.seat texts.old (line.now ∷ []) }
-    ensures grown { OnOk result ((more : List (List ℕ)) × (texts.new ≡ texts.old ++ more)) }
+    ensures grown { HaveGrownBy (line.now ∷ []) texts.old texts.new }
     ensures placed { IfOk result (λ place. slice_get texts.new place ≡ Some line.now) }
     ensures errors { IfErr result IsNoRoom }
 {

@@ -1,5 +1,5 @@
 //! How much memory is kept for lines.
-ghost use Rattle.std.specs.Prelude.{◌≡◌, ◌+◌, ◌*◌, ◌^◌, ◌<◌, ◌≤◌, ◌↔◌, IfErr, IfOk, IsOk, IsTrue, MatchOption, OnErr};
+ghost use Rattle.std.specs.Prelude.{◌≡◌, ◌+◌, ◌*◌, ◌^◌, ◌<◌, ◌≤◌, ◌↔◌, IfErr, IfOk, IsOk, IsOkUnless, IsTrue, MatchOption, OnErr};
 ghost use Rattle.nb_lines.specs.declared.faults.ProgramFault.TheVariants as fault;
 ghost use Rattle.nb_texts.specs.Memory.{bytes_of_load};
 
@@ -42,6 +42,7 @@ impl Taken {
         ensures more { IfOk result (λ taken. (taken.lines ≡ self.lines + lines)
             × (taken.is_whole ≡ self.is_whole)) }
         ensures range { OnErr result (2 ^ 64 ≤ self.lines + lines) }
+        ensures errors { IsOkUnless result fault.TooOften }
     {
         match self.lines.checked_add(lines as u64) {
             Some(lines) => Ok(Taken { lines, ..self }),

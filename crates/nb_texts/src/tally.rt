@@ -3,9 +3,8 @@ ghost use Rattle.std.specs.Bool.{OnFalse, OnTrue};
 ghost use Rattle.std.specs.Prelude.{◌≡◌, ◌+◌, ◌^◌, ◌<◌, ◌≤◌, ◌++◌, ◌==◌, ◌⊎◌, ℕ, Contains, List, [], IfErr, IfOk, IsOkUnless, OnErr, OnOk, count_by, length, min, slice_index};
 ghost use Rattle.nb_core.specs.declared.shapes.TheConstants.{MOST_KEYS};
 ghost use Rattle.nb_lines.specs.declared.faults.ProgramFault.TheVariants as fault;
-ghost use Rattle.nb_texts.specs.Catalogs.{CannotRenew, IsNoRoom};
-ghost use Rattle.nb_texts.specs.Lines.{lines_in, with_new_lines};
-ghost use Rattle.nb_texts.specs.Memory.{lines_with};
+ghost use Rattle.nb_texts.specs.Catalogs.{IsNoRoom};
+ghost use Rattle.nb_texts.specs.Lines.{HaveGrownBy, lines_in, with_new_lines};
 ghost use Rattle.nb_texts.specs.Tallies.{ComesTooOften, IsTally};
 
 use crate::catalog::Catalog;
@@ -85,8 +84,7 @@ impl LineTally {
         ensures fits { IfOk result (TellsWhetherFits limit self.new.catalog block) }
         ensures back { IfOk result (λ fits. OnFalse fits (self.new.catalog ≡ self.old.catalog)) }
         ensures errors { IfErr result IsNoRoom }
-        ensures full { result ≡ Err fault.FullOfLines
-            → CannotRenew (lines_with self.old.catalog block) self.old.catalog.handle }
+        ensures full { result ≡ Err fault.FullOfLines → MOST_KEYS < length self.old.catalog.texts }
     {
         self.catalog.make_room_within(alloc, limit, block)
     }
@@ -110,6 +108,8 @@ impl LineTally {
             → IsTally lines self.old.catalog.texts self.old.counts.items
             → IsTally (lines ++ lines_in block.now) self.new.catalog.texts
             self.new.counts.items) }
+        ensures grown { HaveGrownBy (lines_in block.now) self.old.catalog.texts
+            self.new.catalog.texts }
         ensures errors { IfErr result (λ told. IsNoRoom told ⊎ (told ≡ fault.TooOften)) }
         ensures full { result ≡ Err fault.FullOfLines → self.old.catalog.room
             < length (with_new_lines self.old.catalog.texts (lines_in block.now)) }

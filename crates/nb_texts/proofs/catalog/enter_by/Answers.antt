@@ -1,8 +1,9 @@
-use Rattle.std.proofs.Common.{◌≡◌, [], Some, append-nil, subst, sym}
+use Rattle.std.proofs.Common.{◌≡◌, [], ◌∷◌, Some, refl, subst}
 use Rattle.std.specs.Prelude.{slice_get}
 use Rattle.nb_texts.specs.Clues.{IsClueTo}
 use Rattle.nb_texts.specs.Hashes.{key_for}
 use Rattle.nb_texts.proofs.FindingLemmas.{entered-known}
+use Rattle.nb_texts.proofs.LinesLemmas.{grown-none}
 use Rattle.nb_texts.proofs.catalog.enter_by.Goals as goal
 
 pub returns-in-Place-clause-entered : goal.returns-in-Place-clause-entered
@@ -13,7 +14,8 @@ returns-in-Place-clause-entered g c =
     c.args.handle.now.seat c.args.texts.now c.args.line.now c.in-Place.place c.known.ensures.own at
 
 pub returns-in-Place-clause-grown : goal.returns-in-Place-clause-grown
-returns-in-Place-clause-grown g c = ([], sym (append-nil c.args.texts.now))
+returns-in-Place-clause-grown g c =
+    grown-none (c.args.line.now ∷ []) c.args.texts.now c.args.texts.now refl
 
 pub returns-in-Place-clause-placed : goal.returns-in-Place-clause-placed
 returns-in-Place-clause-placed g c =

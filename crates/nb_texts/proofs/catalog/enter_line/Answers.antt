@@ -1,4 +1,4 @@
-use Rattle.std.proofs.Common.{◌≡◌, ◌≢◌, ◌∙◌, arith, [], ◌∷◌, ◌++◌, None, Option, Some, ap, append-nil, length, refl, subst, subst₂, sym, ℕ}
+use Rattle.std.proofs.Common.{◌≡◌, ◌≢◌, ◌∙◌, arith, [], ◌∷◌, ◌++◌, None, Option, Some, ap, length, refl, subst, subst₂, sym, ℕ}
 use Rattle.std.specs.Prelude.{slice_get}
 use Rattle.nb_core.specs.Meaning.{IsCrowded}
 use Rattle.nb_map.specs.Logs.{HasFound}
@@ -6,6 +6,7 @@ use Rattle.nb_map.specs.Maps.{MapOf}
 use Rattle.nb_map.specs.NamedCalls.{put_if_absent_of}
 use Rattle.nb_texts.proofs.FindingLemmas.{entered-found, entered-new, get-last, tried-more, tried-none}
 use Rattle.nb_texts.proofs.FullLemmas.{all-tried, stopped-full, stopped-many}
+use Rattle.nb_texts.proofs.LinesLemmas.{grown-none, grown-push}
 use Rattle.nb_texts.specs.Claims.{HasClaimedBy}
 use Rattle.nb_texts.specs.Entering.{HasEntered}
 use Rattle.nb_texts.specs.Hashes.{key_after, key_for}
@@ -107,15 +108,31 @@ loop-tries-preserved g c =
     )
 
 pub returns-in-None-clause-grown : goal.returns-in-None-clause-grown
-returns-in-None-clause-grown g c = (
-  c.args.line.now ∷ [],
-  c.in_ok-push-in-None.ensures.put
-      ∙ ap (λ texts. texts ++ c.args.line.now ∷ []) c.loop-tries.invariant.1,
-)
+returns-in-None-clause-grown g c =
+    grown-push c.args.line.now c.args.texts.now c.push.new.self
+    (c.in_ok-push-in-None.ensures.put
+    ∙ ap (λ texts. texts ++ c.args.line.now ∷ []) c.loop-tries.invariant.1)
+
+pub returns-in_err-push-in-None-clause-grown : goal.returns-in_err-push-in-None-clause-grown
+returns-in_err-push-in-None-clause-grown g c =
+    grown-none (c.args.line.now ∷ []) c.args.texts.now c.push.new.self
+    (c.in_err-push-in-None.ensures.kept ∙ c.loop-tries.invariant.1)
 
 pub returns-then-is_at-clause-grown : goal.returns-then-is_at-clause-grown
 returns-then-is_at-clause-grown g c =
-    ([], c.loop-tries.invariant.1 ∙ sym (append-nil c.args.texts.now))
+    grown-none (c.args.line.now ∷ []) c.args.texts.now c.loop-tries.texts c.loop-tries.invariant.1
+
+pub returns-in_err-number-clause-grown : goal.returns-in_err-number-clause-grown
+returns-in_err-number-clause-grown g c =
+    grown-none (c.args.line.now ∷ []) c.args.texts.now c.args.texts.now refl
+
+pub returns-in_err-put-clause-grown : goal.returns-in_err-put-clause-grown
+returns-in_err-put-clause-grown g c =
+    grown-none (c.args.line.now ∷ []) c.args.texts.now c.loop-tries.texts c.loop-tries.invariant.1
+
+pub returns-clause-grown : goal.returns-clause-grown
+returns-clause-grown g c =
+    grown-none (c.args.line.now ∷ []) c.args.texts.now c.loop-tries.texts c.loop-tries.invariant.1
 
 pub returns-in_err-number-clause-full : goal.returns-in_err-number-clause-full
 returns-in_err-number-clause-full g c = λ is.

@@ -8,7 +8,8 @@ use Rattle.nb_texts.specs.Entering.{HasEntered, HasNoRoomFor}
 use Rattle.nb_texts.specs.Hashes.{key_for}
 use Rattle.nb_texts.specs.Lines.{lines_in}
 use Rattle.nb_texts.specs.declared.clues.Clue.TheVariants.{Place}
-use Rattle.nb_texts.proofs.ClueLemmas.{clue-now, entering-begun, entering-done, entering-more, entering-stopped, some-left}
+use Rattle.nb_texts.proofs.ClueLemmas.{clue-now, entering-begun, entering-done, entering-grown, entering-kept, entering-more, entering-stopped, some-left}
+use Rattle.nb_texts.proofs.LinesLemmas.{grown-none}
 use Rattle.nb_texts.proofs.catalog.enter_lines.Goals as goal
 
 pub loop-clue-init : goal.loop-clue-init
@@ -87,12 +88,12 @@ loop-clue-preserved g c =
           now.places.items now.invariant.so_far (slice_index_or clues now.clue-index (Place 0))
           (drop (now.clue-index + 1) clues) c.split_line.result.0.now
           (lines_in c.split_line.result.1.now) c.enter_by.new.handle.seat c.enter_by.new.texts
-          c.in_ok-place.ensures.grown.0 c.push.new.self.items c.in_ok-place.place
+          c.push.new.self.items c.in_ok-place.place
           (drop_more clues now.clue-index (Place 0) c.loop-clue-test.true) c.split_line.ensures.line
           (subst (λ (m : MapOf). HasEntered m.chain.shape (key_for c.args.hashing) now.handle.seat
           c.enter_by.new.handle.seat now.texts c.enter_by.new.texts (c.split_line.result.0.now ∷ []))
           now.invariant.kept.map c.in_ok-place.ensures.entered)
-          c.in_ok-place.ensures.grown.1 c.in_ok-place.ensures.placed
+          c.in_ok-place.ensures.grown c.in_ok-place.ensures.placed
           c.in_ok-push.ensures.items;
     }
 
@@ -113,3 +114,32 @@ returns-in_err-place-clause-full g c =
     c.split_line.ensures.line
     (subst (λ (m : MapOf). HasNoRoomFor m.chain.shape keys now.handle.seat after now.texts (line ∷ []))
     now.invariant.kept.map (told is))
+
+pub returns-in_err-places-clause-grown : goal.returns-in_err-places-clause-grown
+returns-in_err-places-clause-grown g c =
+    grown-none (lines_in c.args.block.now) c.args.texts.now c.args.texts.now refl
+
+pub returns-clause-grown : goal.returns-clause-grown
+returns-clause-grown g c =
+    let now = c.loop-clue in
+    entering-kept c.args.handle.now.map.chain.shape c.args.hashing c.args.handle.now.seat now.handle.seat
+    c.args.texts.now now.texts (lines_in c.args.block.now) (lines_in now.rest.now)
+    (drop now.clue-index c.args.clues.now) now.places.items now.invariant.so_far
+
+pub returns-in_err-place-clause-grown : goal.returns-in_err-place-clause-grown
+returns-in_err-place-clause-grown g c =
+    let now = c.loop-clue in
+    entering-grown c.args.handle.now.map.chain.shape c.args.hashing c.args.handle.now.seat
+    now.handle.seat c.args.texts.now now.texts (lines_in c.args.block.now) (lines_in now.rest.now)
+    (drop now.clue-index c.args.clues.now) now.places.items now.invariant.so_far
+    c.split_line.result.0.now (lines_in c.split_line.result.1.now) c.enter_by.new.texts
+    c.split_line.ensures.line c.enter_by.ensures.grown
+
+pub returns-in_err-push-clause-grown : goal.returns-in_err-push-clause-grown
+returns-in_err-push-clause-grown g c =
+    let now = c.loop-clue in
+    entering-grown c.args.handle.now.map.chain.shape c.args.hashing c.args.handle.now.seat
+    now.handle.seat c.args.texts.now now.texts (lines_in c.args.block.now) (lines_in now.rest.now)
+    (drop now.clue-index c.args.clues.now) now.places.items now.invariant.so_far
+    c.split_line.result.0.now (lines_in c.split_line.result.1.now) c.enter_by.new.texts
+    c.split_line.ensures.line c.enter_by.ensures.grown

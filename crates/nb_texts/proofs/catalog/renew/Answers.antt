@@ -1,4 +1,5 @@
-use Rattle.nb_texts.proofs.RestLemmas.{one-log, renewed-claims, renewed-same}
+use Rattle.std.proofs.Common.{◌∙◌, Err, ap}
+use Rattle.nb_texts.proofs.RestLemmas.{one-log, renewed-claims, renewed-same, renewed-whole, too-small}
 use Rattle.nb_texts.proofs.catalog.renew.Goals as goal
 
 pub returns-in-Ok-clause-logs : goal.returns-in-Ok-clause-logs
@@ -18,3 +19,12 @@ returns-in-Ok-clause-shape c = c.in-Ok.ensures.renewed.begun.made.shape
 pub returns-in-Ok-clause-claims : goal.returns-in-Ok-clause-claims
 returns-in-Ok-clause-claims c =
     renewed-claims c.args.shape c.args.handle.now c.renew.new.self c.in-Ok.ensures.renewed
+
+pub returns-in-Ok-clause-whole : goal.returns-in-Ok-clause-whole
+returns-in-Ok-clause-whole c =
+    renewed-whole c.args.shape c.args.handle.now c.renew.new.self c.in-Ok.ensures.renewed
+
+pub returns-in-Err-Full-clause-full : goal.returns-in-Err-Full-clause-full
+returns-in-Err-Full-clause-full c = λ is.
+    too-small c.args.shape c.args.handle.now c.requires.logs
+    (c.renew.ensures.full (c.in-Err-Full.is ∙ ap Err c.in-Err-Full.field-0-is))

@@ -5,6 +5,7 @@ use Rattle.nb_map.specs.Handles.{seats_of}
 use Rattle.nb_map.specs.Maps.{MapOf}
 use Rattle.nb_map.specs.OneSeat.{held}
 use Rattle.nb_texts.proofs.ClueLemmas.{readers-of}
+use Rattle.nb_texts.proofs.LinesLemmas.{grown-none}
 use Rattle.nb_texts.proofs.RestLemmas.{entered-gathered, gathered-claims, gathered-from, stopped-gathered}
 use Rattle.nb_texts.specs.Claims.{ClaimsOnly}
 use Rattle.nb_texts.specs.Entering.{HasEntered, HasNoRoomFor}
@@ -46,6 +47,7 @@ returns-clause-rest g c =
     let claims = gathered-claims entered.made before.handle last at_rest.logs done entered.puts
     entered.claims at_rest.claims in
     record {
+      whole = c.in_ok-gather.ensures.whole;
       logs = all.0;
       index = all.1;
       claims =
@@ -106,3 +108,11 @@ returns-clause-full g c = λ is.
       refl,
       refl,
     )) at_rest.index at_rest.claims at_rest.room at_rest.most
+
+pub returns-in_err-readers-clause-grown : goal.returns-in_err-readers-clause-grown
+returns-in_err-readers-clause-grown g c =
+    grown-none (lines_in c.args.block.now) c.args.self.now.texts c.args.self.now.texts refl
+
+pub returns-in_err-found-clause-grown : goal.returns-in_err-found-clause-grown
+returns-in_err-found-clause-grown g c =
+    grown-none (lines_in c.args.block.now) c.args.self.now.texts c.args.self.now.texts refl

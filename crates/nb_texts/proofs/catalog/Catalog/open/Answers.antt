@@ -1,10 +1,11 @@
-use Rattle.std.proofs.Common.{◌≡◌, ◌∙◌, ℕ, [], All, ap, arith, refl, subst, sym}
+use Rattle.std.proofs.Common.{◌≡◌, ◌∙◌, ℕ, [], All, ap, arith, length, refl, subst, sym}
 use Rattle.std.specs.FinMap.{len, len-empty}
 use Rattle.std.specs.Ordering.{nat_cmp}
 use Rattle.std.proofs.lemmas.List.Elements.{All-head, All-weaker}
+use Rattle.std.proofs.lemmas.List.FromFn.{length-map-range_with_len}
 use Rattle.nb_core.proofs.Seating.{All-numbered}
 use Rattle.nb_core.specs.Log.{map_of_log}
-use Rattle.nb_core.specs.Plans.{HasRoomFor}
+use Rattle.nb_core.specs.Plans.{HasRoomFor, Plan}
 use Rattle.nb_map.proofs.Theorems.{asks_add_up}
 use Rattle.nb_map.specs.Handles.{seats_of}
 use Rattle.nb_map.specs.Logs.{log}
@@ -31,6 +32,10 @@ returns-clause-rest c =
     = subst (All IsNew) (sym c.in_ok-handle.ensures.seats)
     (All-numbered IsNew (new_seat handle.map) 0 c.shape_for.result.seats (λ n low high. refl)) in
     record {
+      whole =
+          ap length c.in_ok-handle.ensures.seats
+          ∙ length-map-range_with_len (new_seat handle.map) 0 c.shape_for.result.seats
+          ∙ ap (λ (p : Plan). p.seats) (sym c.in_ok-handle.ensures.made.shape);
       logs = one-log [] handle.seat handle.reserve empty;
       index =
           subst (λ texts. IsIndex keys texts (held handle.seat)) (sym c.texts_for.ensures)
