@@ -2,9 +2,11 @@
 pub mod ClaimLemmas
 pub mod ClueLemmas
 pub mod FindingLemmas
+pub mod ForgettingLemmas
 pub mod FullLemmas
 pub mod LinesLemmas
 pub mod MemoryLemmas
+pub mod MiddleLemmas
 pub mod PlacesLemmas
 pub mod ReadingLemmas
 pub mod RestLemmas

@@ -76,7 +76,7 @@ among-with line known lines is =
     let rest = with-grows known lines in
     subst (λ texts. is_among line texts ≡ true) (sym rest.1) (among-left line known rest.0 is)
 
-all-with :
+pub all-with :
     (known lines : List (List ℕ))
     → All (λ line. is_among line (with_new_lines known lines) ≡ true) lines
 all-with known [] = All-nil (λ line. is_among line known ≡ true)
@@ -91,7 +91,7 @@ all-with known (line ∷ lines) = elim (cases_Bool (is_among line known)) [
 ]
 
 -- a line that isn't there never came
-never :
+pub never :
     (line : List ℕ) (texts lines : List (List ℕ)) → is_among line texts ≡ false
     → All (λ line. is_among line texts ≡ true) lines → times line lines ≡ 0
 never line texts [] out all = refl
@@ -109,7 +109,7 @@ never line texts (other ∷ lines) out all = elim (cases_Bool (bytes_eq line oth
       omega (arith, rest, none, sum_by-cons (λ other. cond (bytes_eq line other) 1 0) other lines)
 ]
 
-times-append :
+pub times-append :
     (line : List ℕ) (lines more : List (List ℕ))
     → times line (lines ++ more) ≡ times line lines + times line more
 times-append line [] more = sym (zero-add (times line more))
@@ -188,7 +188,7 @@ get-there [] q d less = absurd (omega (arith, less))
 get-there (text ∷ texts) zero d less = refl
 get-there (text ∷ texts) (suc q) d less = get-there texts q d (omega (arith, less))
 
-index-map : (f : List ℕ → ℕ) (texts : List (List ℕ)) (q : ℕ) (text : List ℕ)
+pub index-map : (f : List ℕ → ℕ) (texts : List (List ℕ)) (q : ℕ) (text : List ℕ)
     → slice_get texts q ≡ Some text → slice_index (map f texts) q ≡ f text
 index-map f [] q text at = absurd cc
 index-map f (t ∷ texts) zero text at = let same : t ≡ text = cc in ap f same

@@ -3,6 +3,7 @@ pub mod Catalogs
 pub mod Claims
 pub mod Clues
 pub mod Entering
+pub mod Forgetting
 pub mod Hashes
 pub mod Lines
 pub mod Memory

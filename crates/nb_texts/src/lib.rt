@@ -8,6 +8,7 @@
 
 mod catalog;
 mod clues;
+mod forgetting;
 mod hashing;
 mod lines;
 mod memory;
@@ -17,6 +18,7 @@ mod tally;
 mod texts;
 
 pub use catalog::{CATALOG_EACH, Catalog};
+pub use forgetting::Forgotten;
 pub use hashing::Hashing;
 pub use lines::split_line;
 pub use memory::{Load, MemoryLimit, Taken};
