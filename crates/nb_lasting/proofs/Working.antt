@@ -1,5 +1,5 @@
 -- How often a guest's write takes its handle.
-use Rattle.std.proofs.Common.{◌≡◌, ◌∙◌, ◌+◌, ◌≤◌, ◌≢◌, ◌⊎◌, ℕ, List, Some, ap, arith, inl, inr, refl, subst, sym}
+use Rattle.std.proofs.Common.{◌≡◌, ◌∙◌, ◌+◌, ◌≤◌, ◌≢◌, ℕ, List, Some, ap, arith, inl, inr, refl, subst, sym}
 use Rattle.std.specs.Prelude.{Err, None, Ok, Option, Result}
 use Rattle.nb_core.specs.declared.calls.Call.{Call}
 use Rattle.nb_core.specs.declared.calls.Reply.{Reply}

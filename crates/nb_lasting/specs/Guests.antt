@@ -1,5 +1,5 @@
 -- A map without an end that guests share, each in a thread of its own: what their calls promise,
--- and what holds at its end. It is told in words of calls alone.
+-- and what holds at its end. It is told in words of calls, and of the handles that they take.
 use Rattle.std.specs.FinMap as numbers
 use Rattle.std.specs.Prelude.{◌≡◌, ◌≢◌, ◌<◌, ◌≤◌, ◌+◌, ◌-◌, ◌^◌, ◌∷◌, ◌++◌, ◌⊎◌, ℕ, zero, suc, Bool, Err, Ok, Result, List, [], All, Option, Some, length, map, slice_get}
 use Rattle.atomic_table.specs.Seated.{TableId}

@@ -207,7 +207,7 @@ numbered-still whole guests numbered i guest at =
     (sym (slice_get-map (with_log whole) guests i ∙ ap (option_map (with_log whole)) old.1) ∙ at) in
     sym (ap (λ (g : GuestOf). g.number) is) ∙ numbered i old.0 old.1
 
-pub settled-all :
+settled-all :
     (shared : SharedOf) (before after : List Worker) (online : ℕ) → AreAllWorkers shared before
     → WorkersHaveSettled before after online → AreAllWorkers shared after
 settled-all shared before after online all settled =
@@ -225,7 +225,7 @@ settled-all shared before after online all settled =
       };
     }
 
-pub joined-settled :
+joined-settled :
     (before : List Worker) (guests now : List GuestOf) (parts : List Part) (after : List Worker)
     (online : ℕ) → guests ≡ guests_of before → parts ≡ map beside_guest before
     → GuestsHaveSettled guests now online → after ≡ workers_of now parts
@@ -247,7 +247,7 @@ pub joined-back :
 joined-back [] = refl
 joined-back (w ∷ workers) = ap (λ l. w ∷ l) (joined-back workers)
 
-pub back-same :
+back-same :
     (before : List Worker) (guests now : List GuestOf) (parts : List Part) (after : List Worker)
     → guests ≡ guests_of before → parts ≡ map beside_guest before → now ≡ guests
     → after ≡ workers_of now parts → after ≡ before
@@ -264,7 +264,7 @@ many-now guests now (Ok online) settled kept =
 many-now guests now (Err fault) settled kept = ap length kept
 
 -- The workers have the guests as they are now, settled or not.
-pub joined-now :
+joined-now :
     (guests now : List GuestOf) (parts : List Part) (after : List Worker)
     (len : ℕ) (result : Result ℕ SettleFault) → len ≡ length guests
     → IfOk result (GuestsHaveSettled guests now) → OnErr result (now ≡ guests)
@@ -274,17 +274,48 @@ joined-now guests now parts after len result long settled kept are =
     are ∙ ap (λ l. workers_of l parts)
     (whole-slice now guests len (many-now guests now result settled kept) long)
 
+-- The guests have settled, or were refused to: then the workers are as before.
+pub record HaveComeBack (before after : List Worker) (result : Result ℕ SettleFault) : Type 0 where
+  pub settled : IfOk result (WorkersHaveSettled before after)
+  pub same : OnErr result (after ≡ before)
+
+-- So it is of workers that were parted, and joined with their guests as those are now.
+pub come-back :
+    {guests slice : List GuestOf} {parts : List Part} {after : List Worker} (before : List Worker)
+    (now : List GuestOf) (len : ℕ) (result : Result ℕ SettleFault) → guests ≡ guests_of before
+    → parts ≡ map beside_guest before → len ≡ length guests → slice ≡ guests
+    → IfOk result (GuestsHaveSettled slice now) → OnErr result (now ≡ slice)
+    → after ≡ workers_of (take len (now ++ drop (length now) guests)) parts
+    → HaveComeBack before after result
+come-back {guests} {slice} {parts} {after} before now len result were had long value settled kept are =
+    by result (subst (λ (l : List GuestOf). IfOk result (GuestsHaveSettled l now)) value settled)
+    (subst (λ (l : List GuestOf). OnErr result (now ≡ l)) value kept)
+  where
+    by : (result : Result ℕ SettleFault) → IfOk result (GuestsHaveSettled guests now)
+        → OnErr result (now ≡ guests) → HaveComeBack before after result
+    by (Ok online) settled kept = record {
+      settled = joined-settled before guests now parts after online were had settled
+          (joined-now guests now parts after len (Ok online) long settled kept are);
+      same = tt;
+    }
+    by (Err fault) settled kept = record {
+      settled = tt;
+      same = back-same before guests now parts after were had kept
+          (joined-now guests now parts after len (Err fault) long settled kept are);
+    }
+
+-- And they are all workers still.
 pub back-all :
-    (shared : SharedOf) (before : List Worker) (guests now : List GuestOf) (parts : List Part)
-    (after : List Worker) (result : Result ℕ SettleFault) → guests ≡ guests_of before
-    → parts ≡ map beside_guest before → IfOk result (GuestsHaveSettled guests now)
-    → OnErr result (now ≡ guests) → after ≡ workers_of now parts → AreAllWorkers shared before
-    → AreAllWorkers shared after
-back-all shared before guests now parts after (Ok online) were had settled kept are all =
-    settled-all shared before after online all
-    (joined-settled before guests now parts after online were had settled are)
-back-all shared before guests now parts after (Err fault) were had settled kept are all =
-    subst (AreAllWorkers shared) (sym (back-same before guests now parts after were had kept are)) all
+    {shared shared' : SharedOf} (before after : List Worker) (result : Result ℕ SettleFault)
+    → HaveComeBack before after result → shared' ≡ shared → AreAllWorkers shared before
+    → AreAllWorkers shared' after
+back-all {shared} {shared'} before after result back same all =
+    subst (λ (s : SharedOf). AreAllWorkers s after) (sym same) (by result back)
+  where
+    by : (result : Result ℕ SettleFault) → HaveComeBack before after result
+        → AreAllWorkers shared after
+    by (Ok online) back = settled-all shared before after online all back.settled
+    by (Err fault) back = subst (AreAllWorkers shared) (sym back.same) all
 
 -- ---- a count
 

@@ -1,7 +1,6 @@
-use Rattle.std.proofs.Common.{◌∙◌, [], subst, sym}
-use Rattle.nb_core.specs.Log.{IsReplayed}
+use Rattle.std.proofs.Common.{[], subst}
 use Rattle.nb_lasting.specs.Guests.{GuestHasCalled, GuestOf}
-use Rattle.nb_lasting.proofs.Visiting.{none-called, then-first}
+use Rattle.nb_lasting.proofs.Visiting.{then-first}
 use Rattle.nb_lasting.proofs.guest.Guest.renew_in_time.Goals as goal
 
 pub returns-then-is_crowded-clause-called : goal.returns-then-is_crowded-clause-called
