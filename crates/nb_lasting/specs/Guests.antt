@@ -1,17 +1,19 @@
 -- A map without an end that guests share, each in a thread of its own: what their calls promise,
 -- and what holds at its end. It is told in words of calls, and of the handles that they take.
 use Rattle.std.specs.FinMap as numbers
-use Rattle.std.specs.Prelude.{◌≡◌, ◌≢◌, ◌<◌, ◌≤◌, ◌+◌, ◌-◌, ◌^◌, ◌∷◌, ◌++◌, ◌⊎◌, ℕ, zero, suc, Bool, Err, Ok, Result, List, [], All, Option, Some, length, map, slice_get}
+use Rattle.std.specs.Prelude.{◌≡◌, ◌≢◌, ◌<◌, ◌≤◌, ◌+◌, ◌*◌, ◌-◌, ◌^◌, ◌∷◌, ◌++◌, ◌⊎◌, ℕ, zero, suc, Bool, IsTrue, Err, Ok, Result, List, [], All, Option, Some, cond, is_some, length, map, slice_get}
 use Rattle.atomic_table.specs.Seated.{TableId}
 use Rattle.nb_core.specs.Log.{Entry, IsReplayed, Numbers, calls_of, map_of_log}
 use Rattle.nb_core.specs.declared.calls.Call.{Call}
 use Rattle.nb_core.specs.declared.calls.Reply.{Reply}
 use Rattle.nb_map.specs.Ending.{EndedOf, map_left}
+use Rattle.nb_map.specs.Fullness.{HasSampled}
 use Rattle.nb_map.specs.Logs.{made_in}
 use Rattle.nb_map.specs.Progress.{Tries}
 use Rattle.nb_map.specs.Promises.{HasGot, HasWritten, replied_or_refused}
 use Rattle.nb_map.specs.declared.faults.PutFault.TheVariants as put_fault
 use Rattle.nb_map.specs.declared.faults.PutFault.{PutFault}
+use Rattle.nb_map.specs.declared.occupancy.Occupancy.{Occupancy}
 use Rattle.nb_lasting.specs.Epochs.{HasGoneOnBy}
 use Rattle.nb_lasting.specs.Lasting.{IsRefusedFor}
 use Rattle.nb_lasting.specs.Shared.{IsOfGuest}
@@ -22,8 +24,8 @@ use Rattle.nb_lasting.specs.declared.shared.Account.{Account}
 
 -- A guest: the map that it is of, its number there, and the log that it knows: the calls of all
 -- guests until its last call. It keeps account of each handle that it took, as that was then, and
--- of its own one each time that it gave it back, the newest first. At least so many of its writes
--- come before the next one that looks whether the map is crowded.
+-- of its own one each time that it gave it back, the newest first. So many more of its writes that
+-- find no number come before the next one that looks whether the map is crowded.
 pub record GuestOf : Type 0 where
   pub of : TableId
   pub number : ℕ
@@ -101,16 +103,47 @@ pub record IsOfOneVisit (call : Call) (before after : GuestOf) : Type 0 where
       ((after.account ≡ then) × GuestHasCalled before after (made_in call outcome))
       ⊎ (IsUndone outcome × HasGrown then after.account)
 
--- how many writes at least come before the next look, where one that is due is made first
+-- It took its own handle once, for one look by it at how full the map is, which found this.
+abbrev pub HasLookedBy : (before : GuestOf) → (after : Account) → Occupancy → Type 0
+HasLookedBy before after found =
+    HasVisited before.number (λ there back. HasSampled there.map there.seat back.seat found)
+    before.account after
+
+-- So it did, and no more, unless more than two thirds of the last table were found taken: then it
+-- may have made the map anew.
+pub record HasLookedInTime (before after : GuestOf) : Type 0 where
+  pub found : Occupancy
+  pub then : Account
+  pub look : HasLookedBy before then found
+  pub only :
+      (after.account ≡ then)
+      ⊎ (IsTrue found.is_last × (2 * found.looked < 3 * found.taken) × HasGrown then after.account)
+
+-- how many such writes come before the next look, where one that is due is made first
 abbrev pub calls_left : ℕ → ℕ
 calls_left zero = LOOK_AFTER
 calls_left (suc n) = suc n
 
--- How long a write works. Where no look is due, it is one write by the guest's handle, unless that
--- is for nothing. A look is due in each 1,024th write at most.
+-- how many are left after these calls: each that found no number brings the next look nearer
+abbrev pub left_with : Reply → ℕ → ℕ
+left_with reply left = cond (is_some reply.before) left (left - 1)
+
+abbrev pub left_after : List (Call × Reply) → ℕ → ℕ
+left_after [] left = left
+left_after ((call, reply) ∷ made) left = left_with reply (left_after made left)
+
+-- How long a write works. It is one write by the guest's handle, unless that is for nothing. Where
+-- a look is due, it looks first. That is so once 1,024 writes found no number since the last one.
 pub record GuestHasWorked (call : Call) (before after : GuestOf) : Type 0 where
-  pub once : before.left ≢ 0 → IsOfOneVisit call before after
+  pub looked : GuestOf
+  pub unmade : GuestHasCalled before looked []
+  pub none : before.left ≢ 0 → looked ≡ before
+  pub due : before.left ≡ 0 → HasLookedInTime before looked
+  pub once : IsOfOneVisit call looked after
   pub left : calls_left before.left ≤ after.left + 1
+  pub counted :
+      (made : List (Call × Reply)) → GuestHasCalled before after made
+      → after.left ≡ left_after made (calls_left before.left)
 
 -- the call is refused, for a reason that holds of the map that the log leaves, and isn't made
 pub record GuestIsRefused (call : Call) (before after : GuestOf) (fault : WriteFault) :

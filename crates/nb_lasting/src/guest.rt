@@ -5,7 +5,7 @@ ghost use Rattle.nb_core.specs.Calls.{Fills};
 ghost use Rattle.nb_core.specs.Log.{IsReplayed, log_of, map_of_log, reply_at};
 ghost use Rattle.nb_core.specs.declared.calls.Call.TheVariants as call;
 ghost use Rattle.nb_map.specs.NamedCalls.{add_of, put_if_absent_of, put_of, remove_if_of, remove_of, replace_if_of, replace_of};
-ghost use Rattle.nb_lasting.specs.Guests.{GuestHasCalled, GuestHasFound, GuestHasMatched, GuestHasRead, GuestHasReplied, GuestHasWorked, GuestIsRefused, HasTriedBy, IsOfOneVisit, calls_left};
+ghost use Rattle.nb_lasting.specs.Guests.{GuestHasCalled, GuestHasFound, GuestHasMatched, GuestHasRead, GuestHasReplied, GuestHasWorked, GuestIsRefused, HasLookedBy, HasLookedInTime, HasTriedBy, IsOfOneVisit, calls_left, left_with};
 ghost use Rattle.nb_lasting.specs.Holding.{IsIdleGuest};
 ghost use Rattle.nb_lasting.specs.Lasting.{IsNewKey, as_write_fault};
 ghost use Rattle.nb_lasting.specs.Visits.{HasGrown};
@@ -16,9 +16,9 @@ use crate::faults::{GrowFault, WriteFault};
 use crate::hall::Hall;
 use crate::renewing::{renew_through, write_or_renew};
 use crate::shared::Token;
-use crate::through::{crowded_through, get_through, write_through};
+use crate::through::{get_through, look_through, write_through};
 use nb_core::{Change, Key, Num, OutOfMemory, Reply, Want};
-use nb_map::PutFault;
+use nb_map::{Occupancy, PutFault};
 use std::alloc::Global;
 use std::marker::Model;
 use std::sync::atomic::Ordering;
@@ -87,9 +87,9 @@ impl Guest {
     }
 
     /// Changes what the map has at a key, where the condition holds of it, and replies what it had.
-    /// It is one write by its handle, unless it looks first, once in 1,024 writes at most, or the
-    /// map is full. It takes memory only for a new key, and then the time of a whole renewal now
-    /// and then.
+    /// It is one write by its handle, unless the map is full. Once in 1,024 writes at most it looks
+    /// first whether the map is crowded. It takes memory only for a new key, and then the time of a
+    /// whole renewal now and then.
     pub fn put_if_match<R: Wait>(
         &mut self,
         rt: &R,
@@ -157,8 +157,7 @@ impl Guest {
 
     /// A call that found no number brings the next look nearer.
     fn count(&mut self, reply: &Reply)
-        ensures { (left : ℕ) × (self.new ≡ with_calls_left left self.old)
-            × (self.old.left ≤ left + 1) }
+        ensures { self.new ≡ with_calls_left (left_with reply.now self.old.left) self.old }
     {
         // Guests may lie side by side: no store where none is needed.
         if reply.before.is_none() {
@@ -263,18 +262,20 @@ impl Guest {
         self.hall.renewals.load(Ordering::SeqCst)
     }
 
-    /// Whether more than two thirds of the last table are taken.
-    fn is_crowded<R: Wait>(&mut self, rt: &R) -> bool
+    /// How full the map is.
+    fn look<R: Wait>(&mut self, rt: &R) -> Occupancy
         ensures called { GuestHasCalled self.old self.new [] }
+        ensures looked { HasLookedBy self.old self.new.account result }
         ensures left { self.new.left ≡ self.old.left }
     {
-        crowded_through(rt, &self.hall.table.shared, &mut self.token, self.lane)
+        look_through(rt, &self.hall.table.shared, &mut self.token, self.lane)
     }
 
     /// Makes the map anew where it is crowded, and there is memory. It looks now and then.
     fn renew_in_time<R: Wait>(&mut self, rt: &R)
         ensures called { GuestHasCalled self.old self.new [] }
         ensures same { self.old.left ≢ 0 → self.new ≡ self.old }
+        ensures due { self.old.left ≡ 0 → HasLookedInTime self.old self.new }
         ensures left { self.new.left ≡ calls_left self.old.left }
     {
         if self.left > 0 {
@@ -282,7 +283,8 @@ impl Guest {
         }
         self.set_left(LOOK_AFTER);
         let renewals = self.hall.renewals.load(Ordering::SeqCst);
-        if self.is_crowded(rt) {
+        let found = self.look(rt);
+        if found.should_renew() {
             let _ = self.renew(rt, renewals);
         }
     }
@@ -291,6 +293,7 @@ impl Guest {
     /// there were so many renewals.
     fn renew<R: Wait>(&mut self, rt: &R, renewals: u64) -> Result<(), GrowFault>
         ensures called { GuestHasCalled self.old self.new [] }
+        ensures grown { HasGrown self.old.account self.new.account }
         ensures left { self.new.left ≡ self.old.left }
     {
         renew_through(rt, &self.hall, &mut self.token, self.lane, renewals)

@@ -290,6 +290,7 @@ pub(crate) fn renew_through<R: Wait>(
     requires replayed { IsReplayed (log_of token.old.me.0.seen) }
     ensures table { token.new.table_id ≡ token.old.table_id }
     ensures idle { IsIdleGuest own token.new.me }
+    ensures grown { HasGrown token.old.me.0.account token.new.me.0.account }
     ensures called { HasCalledIn own token.old.me.0 token.new.me.0 [] }
 {
     let row = &hall.table.shared;

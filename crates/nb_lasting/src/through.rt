@@ -2,6 +2,7 @@
 ghost use Rattle.std.specs.Prelude.{[], ◌∷◌, ◌*◌, ◌≡◌, ◌<◌, ◌≤◌, ◌^◌, ◌-◌};
 ghost use Rattle.nb_core.specs.Log.{reply_at};
 ghost use Rattle.nb_core.specs.declared.calls.Call.TheVariants as call;
+ghost use Rattle.nb_map.specs.Fullness.{HasSampled};
 ghost use Rattle.nb_map.specs.Progress.{Tries};
 ghost use Rattle.nb_map.specs.Promises.{HasGot, HasWritten, replied_or_refused};
 ghost use Rattle.nb_lasting.specs.Holding.{HasCalledIn, HasWrittenIn, IsIdleGuest};
@@ -9,7 +10,7 @@ ghost use Rattle.nb_lasting.specs.Visits.{HasVisited};
 
 use crate::shared::{Row, Token, give, hold};
 use nb_core::{Change, Key, Num, Reply, Want};
-use nb_map::PutFault;
+use nb_map::{Occupancy, PutFault};
 use std::sync::Wait;
 
 /// What the map has at a key.
@@ -75,8 +76,8 @@ pub(crate) fn write_through<R: Wait>(
     reply
 }
 
-/// Whether more than two thirds of the last table are taken.
-pub(crate) fn crowded_through<R: Wait>(rt: &R, row: &Row, token: &mut Token, lane: usize) -> bool
+/// How full the map is.
+pub(crate) fn look_through<R: Wait>(rt: &R, row: &Row, token: &mut Token, lane: usize) -> Occupancy
     requires table { token.old.table_id ≡ row.now.table_id }
     requires lane { lane < row.now.key.seats }
     requires words { row.now.table_id.words ≡ 8 * row.now.key.seats }
@@ -86,12 +87,14 @@ pub(crate) fn crowded_through<R: Wait>(rt: &R, row: &Row, token: &mut Token, lan
     ensures table { token.new.table_id ≡ token.old.table_id }
     ensures idle { IsIdleGuest lane token.new.me }
     ensures called { HasCalledIn lane token.old.me.0 token.new.me.0 [] }
+    ensures visited { HasVisited lane (λ there back. HasSampled there.map there.seat back.seat
+        result) token.old.me.0.account token.new.me.0.account }
 {
     hold(rt, row, token, lane);
     let Some(handle) = token.slot_mut(row, lane) else {
         unreachable!();
     };
-    let crowded = handle.occupancy().should_renew();
+    let found = handle.occupancy();
     give(row, token, lane);
-    crowded
+    found
 }

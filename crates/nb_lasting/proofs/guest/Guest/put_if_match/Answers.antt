@@ -1,6 +1,6 @@
 use Rattle.std.proofs.Common.{◌∷◌, []}
 use Rattle.nb_core.specs.declared.calls.Call.TheVariants.{Write}
-use Rattle.nb_lasting.specs.Guests.{GuestIsRefused}
+use Rattle.nb_lasting.specs.Guests.{GuestIsRefused, left_with}
 use Rattle.nb_lasting.proofs.Visiting.{if-err, then-first, then-refused}
 use Rattle.nb_lasting.proofs.Working.{counted-replied, worked-counted, worked-once}
 use Rattle.nb_lasting.proofs.guest.Guest.put_if_match.Goals as goal
@@ -16,19 +16,24 @@ returns-in_err-reply-clause-refused g c =
 pub returns-in_err-reply-clause-worked : goal.returns-in_err-reply-clause-worked
 returns-in_err-reply-clause-worked g c =
     worked-once (Write c.args.key c.args.want c.args.change) c.args.self.now
-    c.renew_in_time.new.self c.write.new.self c.renew_in_time.ensures.same
-    c.renew_in_time.ensures.left c.write.ensures.once c.write.ensures.left
+    c.renew_in_time.new.self c.write.new.self c.renew_in_time.ensures.called
+    c.renew_in_time.ensures.same c.renew_in_time.ensures.due c.renew_in_time.ensures.left
+    c.write.ensures.once c.write.ensures.left c.in_err-reply.ensures.refused.unmade
 
 pub returns-clause-wrote : goal.returns-clause-wrote
 returns-clause-wrote g c =
     let call = Write c.args.key c.args.want c.args.change in
-    let made = (call, c.in_ok-reply.reply) ∷ [] in
-    counted-replied c.args.self.now c.write.new.self c.count.new.self made c.count.ensures
+    let reply = c.in_ok-reply.reply in
+    let made = (call, reply) ∷ [] in
+    counted-replied c.args.self.now c.write.new.self c.count.new.self
+    (left_with reply c.write.new.self.left) made c.count.ensures
     (then-first c.args.self.now c.renew_in_time.new.self c.write.new.self made
     c.renew_in_time.ensures.called c.in_ok-reply.ensures.wrote)
 
 pub returns-clause-worked : goal.returns-clause-worked
 returns-clause-worked g c =
     worked-counted (Write c.args.key c.args.want c.args.change) c.args.self.now
-    c.renew_in_time.new.self c.write.new.self c.count.new.self c.renew_in_time.ensures.same
-    c.renew_in_time.ensures.left c.write.ensures.once c.write.ensures.left c.count.ensures
+    c.renew_in_time.new.self c.write.new.self c.count.new.self c.in_ok-reply.reply
+    c.renew_in_time.ensures.called c.renew_in_time.ensures.same c.renew_in_time.ensures.due
+    c.renew_in_time.ensures.left c.write.ensures.once c.write.ensures.left
+    c.in_ok-reply.ensures.wrote c.count.ensures
