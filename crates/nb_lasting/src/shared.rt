@@ -19,8 +19,8 @@
 //! the guest's own token.
 //!
 //! Each token keeps account of the handles that it takes, and of those that its guest gives back
-//! (`specs/Visits.antt`): so a get is bound to one handle's get, and a write to one handle's write,
-//! unless that is for nothing.
+//! (`specs/Visits.antt`): so a get is bound to one handle's get, a look to one handle's look, and a
+//! write to one handle's write, unless that is for nothing.
 //!
 //! What is left: no clause says how long a token waits for a lane.
 ghost use Rattle.std.specs.Prelude.{[], Some, ℕ, ◌≡◌, ◌≢◌, ◌*◌, ◌<◌, ◌≤◌, true, false};
