@@ -4,10 +4,10 @@ use Rattle.std.proofs.lemmas.Bool.Decides.{nat_tests}
 use Rattle.std.proofs.lemmas.List.Sums.{sum_by-cons}
 use Rattle.std.specs.Prelude.{if◌then◌else◌, nat_le}
 use Rattle.nb_cache.specs.Ages.{counted_from}
-use Rattle.nb_cache.specs.declared.budget.Age.{Age}
+use Rattle.nb_cache.specs.declared.evicting.CachedText.{CachedText}
 
-abbrev counted : (line : ℕ) → Age → ℕ
-counted line age = if nat_le line age.line then age.count else 0
+abbrev counted : (line : ℕ) → CachedText → ℕ
+counted line text = if nat_le line text.age.line then text.age.count else 0
 
 one-more :
     (a b line count : ℕ) → a ≤ b
@@ -16,13 +16,13 @@ one-more a b line count le = grind (arith, nat_tests)
 
 -- texts from an earlier line on are counted for as much at least
 pub counted-more :
-    (ages : List Age) (a b : ℕ) → a ≤ b → counted_from ages b ≤ counted_from ages a
+    (texts : List CachedText) (a b : ℕ) → a ≤ b → counted_from texts b ≤ counted_from texts a
 counted-more [] a b le = omega arith
-counted-more (age ∷ ages) a b le =
+counted-more (text ∷ texts) a b le =
     omega (
       arith,
-      one-more a b age.line age.count le,
-      counted-more ages a b le,
-      sum_by-cons (counted a) age ages,
-      sum_by-cons (counted b) age ages,
+      one-more a b text.age.line text.age.count le,
+      counted-more texts a b le,
+      sum_by-cons (counted a) text texts,
+      sum_by-cons (counted b) text texts,
     )

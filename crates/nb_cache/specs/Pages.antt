@@ -1,5 +1,5 @@
 -- Pages: texts under their keys, and what is found of them.
-use Rattle.std.specs.Prelude.{◌≡◌, ◌<◌, ◌≤◌, ℕ, List, MatchOption, None, Ok, Option, Some, if◌then◌else◌}
+use Rattle.std.specs.Prelude.{◌≡◌, ℕ, List, MatchOption, None, Ok, Option, Some, if◌then◌else◌}
 use Rattle.boxcar.specs.Table.{Where}
 use Rattle.core.specs.Str.{bytes_eq}
 use Rattle.nb_core.specs.declared.calls.Want.TheVariants as want
@@ -10,7 +10,6 @@ use Rattle.nb_map.specs.Maps.{SeatOf}
 use Rattle.nb_map.specs.NamedCalls.{remove_of}
 use Rattle.nb_map.specs.Progress.{Unlimited}
 use Rattle.nb_map.specs.Promises.{Found, HasWritten}
-use Rattle.nb_cache.specs.Ages.{counted}
 use Rattle.nb_cache.specs.declared.pages.Page.{Page}
 use Rattle.nb_cache.specs.declared.trace.Action.TheVariants.{Get, Put, PutTooLarge}
 use Rattle.nb_cache.specs.declared.trace.Action.{Action}
@@ -44,16 +43,6 @@ pub record HasDropped (m : LongMapOf) (place : ℕ) (name : List ℕ) (before af
   pub got : HasGotValue m place before between (Ok page)
   pub gone :
       MatchOption (text_found page name) (after ≡ between) (λ _. IsTakenOut m place between after)
-
--- What a page comes to where those go that were put before a line: it is taken out, or stays, and is
--- counted.
-abbrev pub GoesIfOld :
-    (first : ℕ) → Page → LongMapOf → (place : ℕ) → (before after : SeatOf)
-    → (left : Option ℕ) → Type 0
-GoesIfOld first page m place before after None =
-    (page.line < first) × IsTakenOut m place before after
-GoesIfOld first page m place before after (Some count) =
-    (first ≤ page.line) × (count ≡ counted page.name.items page.text.items) × (after ≡ before)
 
 -- What a line asks for is done at the place, where this page was stored, or found, or none.
 abbrev pub IsDone :

@@ -1,6 +1,6 @@
-//! A bound on memory: how much texts may take, and which of them go where others come.
-ghost use Rattle.std.specs.Prelude.{◌≡◌, ◌+◌, ◌-◌, ◌^◌, ◌<◌, ◌≤◌, ◌↔◌, ℕ, IsTrue, min};
-ghost use Rattle.nb_cache.specs.Ages.{counted, counted_from};
+//! A bound on memory: what texts are counted for, and how much they may take.
+ghost use Rattle.std.specs.Prelude.{◌≡◌, ◌+◌, ◌-◌, ◌^◌, ◌<◌, ◌≤◌, ◌↔◌, IsTrue};
+ghost use Rattle.nb_cache.specs.Ages.{counted};
 
 use nb_core::MOST_KEYS;
 
@@ -68,36 +68,4 @@ impl Budget {
 pub(crate) struct Age {
     pub(crate) line: u64,
     pub(crate) count: u64,
-}
-
-/// The first line from which on the texts are counted for so much at most.
-pub(crate) fn first_kept(ages: &[Age], most: u64) -> u64
-    requires { most < 2 ^ 64 - 1 }
-    ensures fits { result < 2 ^ 64 - 1 → counted_from ages.now result ≤ most }
-    ensures first { (line : ℕ) → line < result → most < counted_from ages.now line }
-{
-    let mut low = 0;
-    let mut high = u64::MAX;
-    while low < high {
-        let middle = low + (high - low) / 2;
-        if count_from(ages, middle) <= most {
-            high = middle;
-        } else {
-            low = middle + 1;
-        }
-    }
-    low
-}
-
-/// What the texts are counted for that were put by a line or behind it.
-fn count_from(ages: &[Age], line: u64) -> u64
-    ensures { result ≡ min (counted_from ages.now line) (2 ^ 64 - 1) }
-{
-    let mut count = 0u64;
-    for age in ages {
-        if line <= age.line {
-            count = count.saturating_add(age.count);
-        }
-    }
-    count
 }

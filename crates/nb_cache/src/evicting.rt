@@ -1,10 +1,12 @@
 //! Texts are evicted: those that were put longest ago go.
-ghost use Rattle.std.specs.Prelude.{◌≡◌, ◌-◌, ◌<◌, ◌^◌, IfOk};
-ghost use Rattle.boxcar.specs.Table.{Shows};
-ghost use Rattle.nb_long.specs.Handles.{IsWhole, KeepsRest};
-ghost use Rattle.nb_cache.specs.Pages.{GoesIfOld};
+ghost use Rattle.std.specs.Prelude.{◌≡◌, ◌-◌, ◌<◌, ◌≤◌, ◌^◌, ℕ, All, IfErr, IfOk, length, map, min};
+ghost use Rattle.nb_map.specs.Entries.{HaveListed};
+ghost use Rattle.nb_long.specs.Handles.{IsWhole, KeepsRest, seats_of};
+ghost use Rattle.nb_long.specs.Renewing.{IsKept};
+ghost use Rattle.nb_cache.specs.Ages.{counted_from};
+ghost use Rattle.nb_cache.specs.Evicting.{GoesIfOld, HasEvicted, HasTakenOut, IsCached, entry_of_text, old_texts};
 
-use crate::budget::{Age, first_kept};
+use crate::budget::Age;
 use crate::pages::{Page, page_of};
 use nb_core::{Key, Num};
 use nb_lines::ProgramFault;
@@ -12,16 +14,32 @@ use nb_long::{Handle, Receipt, SettleFault};
 use std::alloc::Global;
 use std::sync::Wait;
 
+/// A text of the cache.
+#[derive(Drop)]
+pub(crate) struct CachedText {
+    /// Where the map has it.
+    pub(crate) place: Key,
+    /// What reads its page.
+    pub(crate) page: Receipt<Page>,
+    /// How old the page is.
+    pub(crate) age: Age,
+}
+
 /// What an eviction came to.
-#[derive(Clone, Copy)]
+#[derive(Drop)]
 pub(crate) struct Evicted {
-    /// How many texts went.
+    /// All texts that the cache had.
+    pub(crate) all: Vec<CachedText>,
+    /// The line before which those were put that went.
+    pub(crate) first: u64,
+    /// How many went.
     pub(crate) texts: u64,
     /// What the others are counted for.
     pub(crate) left: u64,
 }
 
 /// Takes those texts out that were put longest ago, until the others are counted for so much at most.
+/// Where it fails, none is taken out.
 pub(crate) fn evict<R: Wait>(
     rt: &R,
     alloc: Global,
@@ -31,17 +49,29 @@ pub(crate) fn evict<R: Wait>(
     requires small { most < 2 ^ 64 - 1 }
     requires whole { IsWhole cache.old }
     ensures whole { IsWhole cache.new }
+    ensures evicted { IfOk result (HasEvicted most cache.old cache.new) }
+    ensures kept { IfErr result (λ _. IsKept cache.old cache.new) }
 {
     let entries = entries_of(alloc, cache)?;
-    let ages = ages_of(alloc, cache, entries.as_slice())?;
-    let first = first_kept(ages.as_slice(), most);
-    take_out(rt, cache, entries.as_slice(), first)
+    let all = texts_of(alloc, cache, entries.as_slice())?;
+    let first = first_kept(all.as_slice(), most);
+    let left = count_from(all.as_slice(), first);
+    let texts = take_out(rt, cache, all.as_slice(), first);
+    Ok(Evicted {
+        all,
+        first,
+        texts,
+        left,
+    })
 }
 
 /// All places, with the numbers of their pages.
 fn entries_of(alloc: Global, cache: &mut Handle<Page>) -> Result<Vec<(Key, Num)>, ProgramFault>
     requires whole { IsWhole cache.old }
     ensures whole { IsWhole cache.new }
+    ensures listed { IfOk result (λ entries. HaveListed (seats_of cache.old) (seats_of cache.new)
+        entries.items) }
+    ensures kept { IsKept cache.old cache.new }
 {
     match cache.entries(alloc) {
         Ok(entries) => Ok(entries),
@@ -50,60 +80,93 @@ fn entries_of(alloc: Global, cache: &mut Handle<Page>) -> Result<Vec<(Key, Num)>
     }
 }
 
-/// How old the texts of these entries are.
-fn ages_of(
+/// The texts of these entries.
+fn texts_of(
     alloc: Global,
     cache: &Handle<Page>,
     entries: &[(Key, Num)],
-) -> Result<Vec<Age>, ProgramFault> {
-    let mut ages = Vec::with_capacity(alloc, entries.len())?;
-    for (_place, number) in entries {
-        ages.push(page_of(cache, *number)?.value().age())?;
-    }
-    Ok(ages)
-}
-
-/// Takes those of these entries out whose texts were put before a line.
-fn take_out<R: Wait>(
-    rt: &R,
-    cache: &mut Handle<Page>,
-    entries: &[(Key, Num)],
-    line: u64,
-) -> Result<Evicted, ProgramFault>
-    requires whole { IsWhole cache.old }
-    ensures whole { IsWhole cache.new }
+) -> Result<Vec<CachedText>, ProgramFault>
+    ensures all { IfOk result (λ texts. map entry_of_text texts.items ≡ entries.now) }
+    ensures cached { IfOk result (λ texts. All (IsCached cache.now.map.store) texts.items) }
 {
-    let mut evicted = Evicted { texts: 0, left: 0 };
+    let mut texts = Vec::with_capacity(alloc, entries.len())?;
     for (place, number) in entries {
-        let (_page, left) = take_out_old(rt, cache, *place, *number, line)?;
-        match left {
-            None => evicted.texts = evicted.texts.wrapping_add(1),
-            Some(count) => evicted.left = evicted.left.saturating_add(count),
-        }
+        let text = text_at(cache, *place, *number)?;
+        texts.push(text)?;
     }
-    Ok(evicted)
+    Ok(texts)
 }
 
-/// Takes the text out whose page is stored under this number, and is at this place, if it was put
-/// before a line. Answers what reads the page, and what a text that stays is counted for.
-fn take_out_old<R: Wait>(
-    rt: &R,
-    cache: &mut Handle<Page>,
-    place: Key,
-    number: Num,
-    line: u64,
-) -> Result<(Receipt<Page>, Option<u64>), ProgramFault>
-    ensures rest { KeepsRest cache.old cache.new }
-    ensures shown { IfOk result (λ old. Shows cache.old.map.store old.0 × (old.0.index ≡ number)) }
-    ensures old { IfOk result (λ old. GoesIfOld line old.0.value cache.old.map place cache.old.seat
-        cache.new.seat old.1) }
+/// The text at a place, whose page is stored under this number.
+fn text_at(cache: &Handle<Page>, place: Key, number: Num) -> Result<CachedText, ProgramFault>
+    ensures entry { IfOk result (λ text. entry_of_text text ≡ (place, number)) }
+    ensures cached { IfOk result (IsCached cache.now.map.store) }
 {
     let page = page_of(cache, number)?;
     let age = page.value().age();
-    let page = page.into_receipt();
-    if age.line >= line {
-        return Ok((page, Some(age.count)));
+    Ok(CachedText {
+        place,
+        page: page.into_receipt(),
+        age,
+    })
+}
+
+/// The first line from which on the texts are counted for so much at most.
+fn first_kept(texts: &[CachedText], most: u64) -> u64
+    requires { most < 2 ^ 64 - 1 }
+    ensures fits { result < 2 ^ 64 - 1 → counted_from texts.now result ≤ most }
+    ensures first { (line : ℕ) → line < result → most < counted_from texts.now line }
+{
+    let mut low = 0;
+    let mut high = u64::MAX;
+    while low < high {
+        let middle = low + (high - low) / 2;
+        if count_from(texts, middle) <= most {
+            high = middle;
+        } else {
+            low = middle + 1;
+        }
     }
-    let _number = cache.remove(rt, place);
-    Ok((page, None))
+    low
+}
+
+/// What the texts are counted for that were put by a line or behind it.
+fn count_from(texts: &[CachedText], line: u64) -> u64
+    ensures { result ≡ min (counted_from texts.now line) (2 ^ 64 - 1) }
+{
+    let mut count = 0u64;
+    for text in texts {
+        if line <= text.age.line {
+            count = count.saturating_add(text.age.count);
+        }
+    }
+    count
+}
+
+/// Takes those of these texts out that were put before a line, and answers how many they are.
+fn take_out<R: Wait>(rt: &R, cache: &mut Handle<Page>, texts: &[CachedText], line: u64) -> u64
+    ensures rest { KeepsRest cache.old cache.new }
+    ensures gone { HasTakenOut (old_texts line texts.now) cache.old.seat cache.new.seat }
+    ensures many { result ≡ length (old_texts line texts.now) }
+{
+    cache.known();
+    let mut gone = 0;
+    for text in texts {
+        if take_out_old(rt, cache, text, line) {
+            gone += 1;
+        }
+    }
+    gone
+}
+
+/// Takes a text out if it was put before a line, and answers whether it was.
+fn take_out_old<R: Wait>(rt: &R, cache: &mut Handle<Page>, text: &CachedText, line: u64) -> bool
+    ensures rest { KeepsRest cache.old cache.new }
+    ensures old { GoesIfOld line text.now cache.old.map cache.old.seat cache.new.seat result }
+{
+    if text.age.line >= line {
+        return false;
+    }
+    let _number = cache.remove(rt, text.place);
+    true
 }

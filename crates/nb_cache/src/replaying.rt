@@ -146,7 +146,7 @@ fn make_room<R: Wait>(
     if budget.has_room(stored.wrapping_sub(run.freed_count), coming) {
         return Ok(());
     }
-    let Evicted { texts, left } = evict(rt, alloc, cache, budget.left())?;
+    let Evicted { texts, left, .. } = evict(rt, alloc, cache, budget.left())?;
     run.evicted = run.evicted.wrapping_add(texts);
     run.freed_count = stored.wrapping_sub(left);
     if renewed(rt, alloc, cache)? {

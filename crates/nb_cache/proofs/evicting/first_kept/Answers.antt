@@ -1,6 +1,6 @@
 use Rattle.std.proofs.Common.{◌+◌, ◌-◌, ◌/◌, ◌≤◌, arith}
 use Rattle.nb_cache.proofs.AgeLemmas.{counted-more}
-use Rattle.nb_cache.proofs.budget.first_kept.Goals as goal
+use Rattle.nb_cache.proofs.evicting.first_kept.Goals as goal
 
 pub loop-low-preserved : goal.loop-low-preserved
 loop-low-preserved c =
@@ -12,7 +12,7 @@ loop-low-preserved c =
           let earlier : line ≤ middle = omega (arith, less) in
           omega (
             arith,
-            counted-more c.args.ages.now line middle earlier,
+            counted-more c.args.texts.now line middle earlier,
             c.count_from.ensures,
             c.if-count_from-most.false,
           );
