@@ -1,11 +1,11 @@
 -- The lines of an input are counted block after block.
-use Rattle.std.proofs.Common.{◌≡◌, ◌∙◌, ◌+◌, ◌≤◌, ℕ, Bool, false, List, [], ◌++◌, None, Option, Some, IfSome, ap, arith, drop, length, length-append, map, refl, subst, sym, take}
+use Rattle.std.proofs.Common.{◌≡◌, ◌∙◌, ◌+◌, ◌^◌, ◌<◌, ◌≤◌, ℕ, Bool, false, List, [], ◌++◌, None, Option, Some, IfSome, ap, arith, drop, length, length-append, map, refl, subst, sym, take}
 use Rattle.std.proofs.lemmas.List.{length-map, map-append}
-use Rattle.nb_texts.proofs.Theorems.{IsReading, on-known, over-with, reading-begun, reading-ended, reading-first, reading-more, reading-next}
-use Rattle.nb_texts.specs.Lines.{lines_in}
+use Rattle.nb_texts.proofs.Theorems.{IsReading, often-many, on-known, over-with, reading-begun, reading-distinct, reading-ended, reading-first, reading-many, reading-more, reading-next, with-append}
+use Rattle.nb_texts.specs.Lines.{distinct, lines_in, with_new_lines}
 use Rattle.nb_texts.specs.Memory.{TellsWhetherFits, ahead_under}
 use Rattle.nb_texts.specs.Sources.{HasCut, IsBlock}
-use Rattle.nb_texts.specs.Tallies.{IsTally, times}
+use Rattle.nb_texts.specs.Tallies.{ComesTooOften, IsTally, times}
 use Rattle.nb_texts.specs.declared.catalog.Catalog.{Catalog}
 use Rattle.nb_texts.specs.declared.memory.Load.{Load}
 use Rattle.nb_texts.specs.declared.memory.MemoryLimit.{MemoryLimit}
@@ -144,3 +144,63 @@ limited column (Some limit) known now next taken texts counts rest rest' block c
       over = over-with limit catalog load counted many bytes fits;
     })
     (reading-next known now next under.lines rest rest' block some taken under.many under.reading cut)
+
+-- ---- a refusal
+
+-- there are more than so many distinct ones,
+pub past-most :
+    (column : Option Column) (known now : Option (List ℕ)) (taken : ℕ) (texts : List (List ℕ))
+    (counts rest : List ℕ) (most : ℕ) → IsUnderway column known now taken texts counts rest
+    → most < length texts
+    → IfSome known (λ input. most < length (distinct (counted_of column (lines_in input))))
+past-most column known now taken texts counts rest most under past =
+    reading-distinct (counted_of column) (counted-append column) known now under.lines rest most
+    (omega (arith, past, ap length under.tally.are)) under.reading
+
+module _
+    (column : Option Column) (known now next : Option (List ℕ)) (taken : ℕ) (texts : List (List ℕ))
+    (counts rest rest' block : List ℕ) (some : Bool)
+    (under : IsUnderway column known now taken texts counts rest)
+    (cut : HasCut some now next rest block rest')
+  where
+    read : IsReading known next (under.lines ++ lines_in block) rest'
+    read = reading-more known now next under.lines rest rest' block some under.reading cut
+
+    -- or there are with a block,
+    pub past-with :
+        (most : ℕ) → most < length (with_new_lines texts (counted_of column (lines_in block)))
+        → IfSome known (λ input. most < length (distinct (counted_of column (lines_in input))))
+    past-with most past =
+        let more = counted_of column (lines_in block) in
+        let all : distinct (counted_of column (under.lines ++ lines_in block))
+        ≡ with_new_lines texts more
+        = ap distinct (counted-append column under.lines (lines_in block))
+        ∙ with-append [] (counted_of column under.lines) more
+        ∙ ap (λ texts. with_new_lines texts more) (sym under.tally.are) in
+        reading-distinct (counted_of column) (counted-append column) known next
+        (under.lines ++ lines_in block) rest' most (omega (arith, past, ap length all)) read
+
+    -- or so many lines,
+    pub many-with :
+        (most : ℕ) → most ≤ taken + length (lines_in block)
+        → IfSome known (λ input. most ≤ length (lines_in input))
+    many-with most many =
+        reading-many known next (under.lines ++ lines_in block) rest' most
+        (omega (arith, many, under.many, length-append under.lines (lines_in block))) read
+
+    -- as where one comes too often
+    pub often-with :
+        ((lines : List (List ℕ)) → IsTally lines texts counts
+        → ComesTooOften lines (counted_of column (lines_in block)))
+        → IfSome known (λ input. 2 ^ 64 ≤ length (lines_in input))
+    often-with often =
+        let lines = counted_of column under.lines in
+        let more = counted_of column (lines_in block) in
+        many-with (2 ^ 64) (omega (
+          arith,
+          often-many lines more (often lines under.tally),
+          length-append lines more,
+          counted-many column under.lines,
+          counted-many column (lines_in block),
+          under.many,
+        ))

@@ -1,7 +1,11 @@
 //! Lines, counted.
-ghost use Rattle.std.specs.Prelude.{◌≡◌, IfOk, IfSome, IsTrue, None, false, length};
-ghost use Rattle.nb_texts.specs.Lines.{lines_in};
+ghost use Rattle.std.specs.Prelude.{◌≡◌, ◌<◌, ◌≤◌, ◌^◌, ◌⊎◌, IfErr, IfOk, IfSome, IsTrue, None, false, length};
+ghost use Rattle.nb_core.specs.declared.shapes.TheConstants.{MOST_KEYS};
+ghost use Rattle.nb_lines.specs.declared.faults.ProgramFault.TheVariants as fault;
+ghost use Rattle.nb_texts.specs.Catalogs.{IsNoRoom};
+ghost use Rattle.nb_texts.specs.Lines.{distinct, lines_in};
 ghost use Rattle.nb_texts.specs.Memory.{KeepsTo};
+ghost use Rattle.nb_texts.specs.Sources.{IsReadFault};
 ghost use Rattle.nb_texts.specs.Tallies.{IsTally};
 ghost use Rattle.nb_tally.specs.Fields.{counted_of};
 ghost use Rattle.nb_tally.specs.Limits.{IsTallyOfFirst, MayNotFit};
@@ -22,7 +26,8 @@ pub(crate) struct Counted {
 }
 
 /// Each distinct line of an input or, of a column of it, each distinct field, with how often it comes.
-/// Under a limit it ends before a block of lines that might not fit.
+/// Under a limit it ends before a block of lines that might not fit. It is refused for more distinct
+/// ones than any map has room for, for 2^64 lines, where memory is, and where the reader fails.
 pub(crate) fn tally_lines<R, I>(
     rt: &R,
     alloc: Global,
@@ -47,6 +52,12 @@ where
     ensures full { IfOk result (λ counted. counted.taken.is_whole ≡ false
         → IfSome plan.limit (λ limit. IfSome (I.remaining reader.old) (λ input.
         MayNotFit column limit input counted.taken.lines counted.tally.catalog))) }
+    ensures errors { IfErr result (λ told.
+        IsReadFault told ⊎ IsNoRoom told ⊎ (told ≡ fault.TooOften)) }
+    ensures too_many { result ≡ Err fault.FullOfLines → IfSome (I.remaining reader.old) (λ input.
+        MOST_KEYS < length (distinct (counted_of column (lines_in input)))) }
+    ensures too_often { result ≡ Err fault.TooOften → IfSome (I.remaining reader.old) (λ input.
+        2 ^ 64 ≤ length (lines_in input)) }
 {
     let mut tally = LineTally::new(
         alloc,

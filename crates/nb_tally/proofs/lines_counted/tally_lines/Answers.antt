@@ -1,17 +1,20 @@
-use Rattle.std.proofs.Common.{◌≡◌, ◌∙◌, ◌+◌, ◌++◌, ◌≤◌, List, ap, arith, false, length, refl, subst, sym, true, ℕ}
+use Rattle.std.proofs.Common.{◌≡◌, ◌∙◌, ◌+◌, ◌++◌, ◌^◌, ◌<◌, ◌≤◌, Err, List, ap, ap₂, arith, false, length, refl, rules, subst, sym, true, ℕ}
 use Rattle.std.proofs.lemmas.Bool.Decides.{nat_tests}
 use Rattle.std.specs.Bool.{OnFalse, OnTrue}
-use Rattle.std.specs.Prelude.{vec_items}
-use Rattle.nb_texts.proofs.Theorems.{kept-more, kept-none, none-in-line}
+use Rattle.std.proofs.lemmas.Grind.{common_steps}
+use Rattle.std.specs.Prelude.{min, vec_items}
+use Rattle.nb_core.specs.declared.shapes.TheConstants.{MOST_KEYS}
+use Rattle.nb_lines.specs.declared.faults.ProgramFault.TheVariants as fault
+use Rattle.nb_texts.proofs.Theorems.{kept-more, kept-none, no-more-room, none-in-line}
 use Rattle.nb_texts.specs.Catalogs.{IsAtRest}
-use Rattle.nb_texts.specs.Lines.{lines_in}
+use Rattle.nb_texts.specs.Lines.{lines_in, with_new_lines}
 use Rattle.nb_texts.specs.Memory.{KeepsTo, TellsWhetherFits, ahead_under}
 use Rattle.nb_texts.specs.Sources.{IsBlock}
-use Rattle.nb_texts.specs.Tallies.{IsTally}
+use Rattle.nb_texts.specs.Tallies.{ComesTooOften, IsTally}
 use Rattle.nb_texts.specs.declared.catalog.Catalog.{Catalog}
 use Rattle.nb_texts.specs.declared.memory.Load.{Load}
 use Rattle.nb_tally.specs.Fields.{counted_of}
-use Rattle.nb_tally.proofs.CountedLemmas.{counted-many, limited, underway-begun, underway-first, underway-more, underway-same}
+use Rattle.nb_tally.proofs.CountedLemmas.{counted-many, limited, many-with, often-with, past-most, past-with, underway-begun, underway-first, underway-more, underway-same}
 use Rattle.nb_tally.proofs.lines_counted.tally_lines.Goals as goal
 
 pub loop-init : goal.loop-init
@@ -121,3 +124,76 @@ loop-preserved g c =
       c.in_ok-refill.ensures.rest,
       c.refill.ensures.room ∙ now.invariant.5,
     )
+
+pub returns-in_err-make_room_within-clause-too_many : goal.returns-in_err-make_room_within-clause-too_many
+returns-in_err-make_room_within-clause-too_many g c =
+    let rem = g.I.Read.remaining in
+    let now = c.loop in
+    let told : c.from_residual-in_err-make_room_within.result ≡ Err fault.FullOfLines
+    → MOST_KEYS < length now.tally.catalog.texts = first_of (search rules, grind (arith, common_steps)) in
+    λ is.
+    past-most c.args.column (rem c.args.reader.now) (rem now.reader) now.taken.lines
+    now.tally.catalog.texts now.tally.counts.items now.source.rest.items MOST_KEYS now.invariant.1
+    (told is)
+
+pub returns-in_err-enter-clause-too_many : goal.returns-in_err-enter-clause-too_many
+returns-in_err-enter-clause-too_many g c =
+    let rem = g.I.Read.remaining in
+    let now = c.loop in
+    let made = c.make_room_within.new.self.catalog in
+    let block = c.refill.new.self.block.items in
+    let counted = lines_in c.in_ok-block.block.now in
+    let same = c.in_ok-make_room_within.ensures in
+    let fits : c.in_ok-make_room_within.field-0 ≡ true = grind (arith, nat_tests, c.if-not-branch-2.false) in
+    let are : counted ≡ counted_of c.args.column (lines_in block)
+    = c.in_ok-block.ensures ∙ ap (λ block. counted_of c.args.column (lines_in block)) c.block.ensures in
+    let many = c.lines-lines.result in
+    let few : length counted ≤ many
+    = omega (arith, c.lines-lines.ensures, ap length are, counted-many c.args.column (lines_in block)) in
+    let room : min (length made.texts + many) MOST_KEYS ≤ made.room
+    = subst (λ fits. OnTrue fits (min (length made.texts + many) MOST_KEYS ≤ made.room)) fits same.room in
+    let told : c.from_residual-in_err-enter.result ≡ Err fault.FullOfLines
+    → made.room < length (with_new_lines made.texts counted)
+    = first_of (search rules, grind (arith, common_steps)) in
+    λ is.
+    let past = no-more-room made.texts counted many made.room few room (told is) in
+    past-with c.args.column (rem c.args.reader.now) (rem now.reader) (rem c.refill.new.reader)
+    now.taken.lines now.tally.catalog.texts now.tally.counts.items now.source.rest.items
+    c.refill.new.self.rest.items block c.in_ok-refill.field-0 now.invariant.1
+    c.in_ok-refill.ensures.cut MOST_KEYS
+    (subst (λ texts. MOST_KEYS < length texts) (ap₂ with_new_lines same.texts are) past)
+
+pub returns-in_err-enter-clause-too_often : goal.returns-in_err-enter-clause-too_often
+returns-in_err-enter-clause-too_often g c =
+    let rem = g.I.Read.remaining in
+    let known = rem c.args.reader.now in
+    let now = c.loop in
+    let made = c.make_room_within.new.self in
+    let block = c.refill.new.self.block.items in
+    let counted = lines_in c.in_ok-block.block.now in
+    let same = c.in_ok-make_room_within.ensures in
+    let are : counted ≡ counted_of c.args.column (lines_in block)
+    = c.in_ok-block.ensures ∙ ap (λ block. counted_of c.args.column (lines_in block)) c.block.ensures in
+    let told : c.from_residual-in_err-enter.result ≡ Err fault.TooOften
+    → (lines : List (List ℕ)) → IsTally lines made.catalog.texts made.counts.items
+    → ComesTooOften lines counted = first_of (search rules, grind (arith, common_steps)) in
+    λ is.
+    often-with c.args.column known (rem now.reader) (rem c.refill.new.reader) now.taken.lines
+    made.catalog.texts made.counts.items now.source.rest.items c.refill.new.self.rest.items block
+    c.in_ok-refill.field-0
+    (underway-same c.args.column known (rem now.reader) now.taken.lines now.tally.catalog.texts
+    made.catalog.texts now.tally.counts.items made.counts.items now.source.rest.items same.texts
+    (ap vec_items same.counts) now.invariant.1)
+    c.in_ok-refill.ensures.cut
+    (λ lines tally. subst (ComesTooOften lines) are (told is lines tally))
+
+pub returns-in_err-taken-clause-too_often : goal.returns-in_err-taken-clause-too_often
+returns-in_err-taken-clause-too_often g c = λ is.
+    let rem = g.I.Read.remaining in
+    let now = c.loop in
+    let block = c.refill.new.self.block.items in
+    many-with c.args.column (rem c.args.reader.now) (rem now.reader) (rem c.refill.new.reader)
+    now.taken.lines now.tally.catalog.texts now.tally.counts.items now.source.rest.items
+    c.refill.new.self.rest.items block c.in_ok-refill.field-0 now.invariant.1
+    c.in_ok-refill.ensures.cut (2 ^ 64)
+    (omega (arith, c.in_err-taken.ensures.range, c.lines-lines.ensures))
