@@ -1,10 +1,10 @@
 -- Each line of an input is written where it comes first.
-use Rattle.std.proofs.Common.{◌≡◌, ◌∙◌, ◌+◌, ◌≤◌, ℕ, Bool, false, List, [], ◌∷◌, ◌++◌, None, Option, Some, IfSome, ap, arith, drop, length, length-append, refl, subst, sym, take}
+use Rattle.std.proofs.Common.{◌≡◌, ◌∙◌, ◌+◌, ◌<◌, ◌≤◌, ℕ, Bool, false, List, [], ◌∷◌, ◌++◌, None, Option, Some, IfSome, ap, arith, drop, length, length-append, refl, subst, sym, take}
 use Rattle.std.proofs.KnownBytes.{Appends-nil, Appends-trans}
 use Rattle.std.proofs.lemmas.List.{drop_at}
 use Rattle.std.proofs.lemmas.List.Concat.{flat_map-append}
 use Rattle.std.specs.Io.KnownBytes.{Appends}
-use Rattle.nb_texts.proofs.Theorems.{IsReading, on-known, over-with, reading-begun, reading-ended, reading-first, reading-more, reading-next, with-append, with-grows}
+use Rattle.nb_texts.proofs.Theorems.{IsReading, on-known, over-with, reading-begun, reading-distinct, reading-ended, reading-first, reading-many, reading-more, reading-next, with-append, with-grows}
 use Rattle.nb_texts.specs.Lines.{distinct, lines_in, text_of_lines, with_new_lines}
 use Rattle.nb_texts.specs.Memory.{TellsWhetherFits, ahead_under}
 use Rattle.nb_texts.specs.Sources.{HasCut, IsBlock}
@@ -130,3 +130,42 @@ limited (Some limit) known now next before after taken texts rest rest' block so
       over = over-with limit catalog load block many bytes fits;
     })
     (reading-next known now next under.lines rest rest' block some taken under.many under.reading cut)
+
+-- ---- a refusal
+
+-- there are more than so many distinct ones,
+pub past-most :
+    (known now before after : Option (List ℕ)) (taken : ℕ) (texts : List (List ℕ)) (rest : List ℕ)
+    (most : ℕ) → IsUnderway known now before after taken texts rest → most < length texts
+    → IfSome known (λ input. most < length (distinct (lines_in input)))
+past-most known now before after taken texts rest most under past =
+    reading-distinct (λ lines. lines) (λ lines more. refl) known now under.lines rest most
+    (omega (arith, past, ap length under.are)) under.reading
+
+module _
+    (known now next before after : Option (List ℕ)) (taken : ℕ) (texts : List (List ℕ))
+    (rest rest' block : List ℕ) (some : Bool)
+    (under : IsUnderway known now before after taken texts rest)
+    (cut : HasCut some now next rest block rest')
+  where
+    read : IsReading known next (under.lines ++ lines_in block) rest'
+    read = reading-more known now next under.lines rest rest' block some under.reading cut
+
+    -- or there are with a block,
+    pub past-with :
+        (most : ℕ) → most < length (with_new_lines texts (lines_in block))
+        → IfSome known (λ input. most < length (distinct (lines_in input)))
+    past-with most past =
+        let all : distinct (under.lines ++ lines_in block) ≡ with_new_lines texts (lines_in block)
+        = with-append [] under.lines (lines_in block)
+        ∙ ap (λ texts. with_new_lines texts (lines_in block)) (sym under.are) in
+        reading-distinct (λ lines. lines) (λ lines more. refl) known next
+        (under.lines ++ lines_in block) rest' most (omega (arith, past, ap length all)) read
+
+    -- or so many lines
+    pub many-with :
+        (most : ℕ) → most ≤ taken + length (lines_in block)
+        → IfSome known (λ input. most ≤ length (lines_in input))
+    many-with most many =
+        reading-many known next (under.lines ++ lines_in block) rest' most
+        (omega (arith, many, under.many, length-append under.lines (lines_in block))) read

@@ -1,8 +1,12 @@
 //! Lines, each printed where it comes first.
 ghost use Rattle.std.specs.Io.KnownBytes.{Appends};
-ghost use Rattle.std.specs.Prelude.{◌≡◌, IfOk, IfSome, IsTrue, None, OnOk, drop, false};
+ghost use Rattle.std.specs.Prelude.{◌≡◌, ◌<◌, ◌≤◌, ◌^◌, ◌⊎◌, IfErr, IfOk, IfSome, IsTrue, None, OnOk, drop, false, length};
+ghost use Rattle.nb_core.specs.declared.shapes.TheConstants.{MOST_KEYS};
+ghost use Rattle.nb_lines.specs.declared.faults.ProgramFault.TheVariants as fault;
+ghost use Rattle.nb_texts.specs.Catalogs.{IsNoRoom};
 ghost use Rattle.nb_texts.specs.Lines.{distinct, lines_in, text_of_lines};
 ghost use Rattle.nb_texts.specs.Memory.{KeepsTo};
+ghost use Rattle.nb_texts.specs.Sources.{IsReadFault};
 ghost use Rattle.nb_dedup.specs.Limits.{HasPrintedFirst, LinesMayNotFit};
 
 use nb_lines::{Done, ProgramFault};
@@ -20,7 +24,8 @@ pub(crate) struct Printed {
 }
 
 /// Writes each line of an input where it comes first, and no line twice. Under a limit it ends before a
-/// block of lines that might not fit.
+/// block of lines that might not fit. It is refused for more distinct lines than any map has room for,
+/// for 2^64 lines, where memory is, and where the reader or the writer fails.
 pub(crate) fn print_once<R, I, W>(
     rt: &R,
     alloc: Global,
@@ -44,6 +49,12 @@ where
     ensures full { IfOk result (λ printed. printed.taken.is_whole ≡ false
         → IfSome plan.limit (λ limit. IfSome (I.remaining reader.old) (λ input.
         LinesMayNotFit limit input printed.taken.lines printed.catalog))) }
+    ensures errors { IfErr result (λ told. IsReadFault told ⊎ IsNoRoom told
+        ⊎ (told ≡ fault.TooOften) ⊎ (told ≡ fault.Write)) }
+    ensures too_many { result ≡ Err fault.FullOfLines → IfSome (I.remaining reader.old) (λ input.
+        MOST_KEYS < length (distinct (lines_in input))) }
+    ensures too_often { result ≡ Err fault.TooOften → IfSome (I.remaining reader.old) (λ input.
+        2 ^ 64 ≤ length (lines_in input)) }
 {
     let mut catalog = Catalog::open(alloc, plan.hashing, plan.first_room(), plan.limit)?;
     let mut source = LineSource::new(alloc, plan.ahead())?;
@@ -77,8 +88,9 @@ fn write_from<W: Write>(
     first: usize,
     writer: &mut W,
 ) -> Result<(), ProgramFault>
-    ensures { OnOk result (Appends (W.contents writer.old) (W.contents writer.new)
+    ensures wrote { OnOk result (Appends (W.contents writer.old) (W.contents writer.new)
         (text_of_lines (drop first catalog.now.texts))) }
+    ensures errors { IfErr result (λ told. (told ≡ fault.OutOfMemory) ⊎ (told ≡ fault.Write)) }
 {
     let text = catalog.text_from(alloc, first)?;
     if writer.write_all(text.as_slice()).is_err() || writer.flush().is_err() {

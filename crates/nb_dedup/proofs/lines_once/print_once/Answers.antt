@@ -1,12 +1,16 @@
-use Rattle.std.proofs.Common.{◌≡◌, ◌∙◌, ◌+◌, ◌≤◌, ap, ap₂, arith, false, length, refl, subst, sym, true}
+use Rattle.std.proofs.Common.{◌≡◌, ◌∙◌, ◌+◌, ◌^◌, ◌<◌, ◌≤◌, Err, ap, ap₂, arith, false, length, refl, rules, subst, sym, true}
 use Rattle.std.proofs.lemmas.Bool.Decides.{nat_tests}
+use Rattle.std.proofs.lemmas.Grind.{common_steps}
 use Rattle.std.specs.Bool.{OnTrue}
-use Rattle.nb_texts.proofs.Theorems.{kept-more, kept-none, none-in-line}
+use Rattle.std.specs.Prelude.{min}
+use Rattle.nb_core.specs.declared.shapes.TheConstants.{MOST_KEYS}
+use Rattle.nb_lines.specs.declared.faults.ProgramFault.TheVariants as fault
+use Rattle.nb_texts.proofs.Theorems.{kept-more, kept-none, no-more-room, none-in-line}
 use Rattle.nb_texts.specs.Lines.{lines_in, with_new_lines}
 use Rattle.nb_texts.specs.Memory.{TellsWhetherFits, ahead_under}
 use Rattle.nb_texts.specs.Sources.{IsBlock}
 use Rattle.nb_texts.specs.declared.memory.Load.{Load}
-use Rattle.nb_dedup.proofs.OnceLemmas.{limited, underway-begun, underway-first, underway-more}
+use Rattle.nb_dedup.proofs.OnceLemmas.{limited, many-with, past-most, past-with, underway-begun, underway-first, underway-more}
 use Rattle.nb_dedup.proofs.lines_once.print_once.Goals as goal
 
 pub loop-init : goal.loop-init
@@ -91,7 +95,7 @@ loop-preserved g c =
           (con now.writer) (con c.write_from.new.writer) now.taken.lines c.in_ok-taken.taken.lines
           c.len-known.result now.catalog.texts catalog.texts now.source.rest.items
           c.refill.new.self.rest.items block c.in_ok-refill.field-0 now.invariant.1
-          c.in_ok-refill.ensures.cut more known-many entered c.in_ok-write_from.ensures,
+          c.in_ok-refill.ensures.cut more known-many entered c.in_ok-write_from.ensures.wrote,
       kept-more c.args.plan.limit c.in_ok-taken.taken.lines made catalog load text
           (subst (TellsWhetherFits c.args.plan.limit made load) fits same.fits) few
           (ap length (c.block-bytes.ensures ∙ sym c.block.ensures)) c.in_ok-enter.ensures.lines
@@ -100,3 +104,52 @@ loop-preserved g c =
       c.in_ok-refill.ensures.rest,
       c.refill.ensures.room ∙ now.invariant.5,
     )
+
+pub returns-in_err-make_room_within-clause-too_many : goal.returns-in_err-make_room_within-clause-too_many
+returns-in_err-make_room_within-clause-too_many g c =
+    let rem = g.I.Read.remaining in
+    let con = g.W.Write.contents in
+    let now = c.loop in
+    let told : c.from_residual-in_err-make_room_within.result ≡ Err fault.FullOfLines
+    → MOST_KEYS < length now.catalog.texts = first_of (search rules, grind (arith, common_steps)) in
+    λ is.
+    past-most (rem c.args.reader.now) (rem now.reader) (con c.args.writer.now) (con now.writer)
+    now.taken.lines now.catalog.texts now.source.rest.items MOST_KEYS now.invariant.1 (told is)
+
+pub returns-in_err-enter-clause-too_many : goal.returns-in_err-enter-clause-too_many
+returns-in_err-enter-clause-too_many g c =
+    let rem = g.I.Read.remaining in
+    let con = g.W.Write.contents in
+    let now = c.loop in
+    let made = c.make_room_within.new.self in
+    let block = c.refill.new.self.block.items in
+    let lines = lines_in c.block.result.now in
+    let same = c.in_ok-make_room_within.ensures in
+    let fits : c.in_ok-make_room_within.field-0 ≡ true = grind (arith, nat_tests, c.if-not-branch-2.false) in
+    let are : lines ≡ lines_in block = ap lines_in c.block.ensures in
+    let many = c.lines-lines.result in
+    let few : length lines ≤ many = omega (arith, c.lines-lines.ensures, ap length are) in
+    let room : min (length made.texts + many) MOST_KEYS ≤ made.room
+    = subst (λ fits. OnTrue fits (min (length made.texts + many) MOST_KEYS ≤ made.room)) fits same.room in
+    let told : c.from_residual-in_err-enter.result ≡ Err fault.FullOfLines
+    → made.room < length (with_new_lines made.texts lines)
+    = first_of (search rules, grind (arith, common_steps)) in
+    λ is.
+    let past = no-more-room made.texts lines many made.room few room (told is) in
+    past-with (rem c.args.reader.now) (rem now.reader) (rem c.refill.new.reader)
+    (con c.args.writer.now) (con now.writer) now.taken.lines now.catalog.texts
+    now.source.rest.items c.refill.new.self.rest.items block c.in_ok-refill.field-0 now.invariant.1
+    c.in_ok-refill.ensures.cut MOST_KEYS
+    (subst (λ texts. MOST_KEYS < length texts)
+    (ap₂ with_new_lines c.make_room_within.ensures.same are) past)
+
+pub returns-in_err-taken-clause-too_often : goal.returns-in_err-taken-clause-too_often
+returns-in_err-taken-clause-too_often g c = λ is.
+    let rem = g.I.Read.remaining in
+    let con = g.W.Write.contents in
+    let now = c.loop in
+    many-with (rem c.args.reader.now) (rem now.reader) (rem c.refill.new.reader)
+    (con c.args.writer.now) (con now.writer) now.taken.lines now.catalog.texts
+    now.source.rest.items c.refill.new.self.rest.items c.refill.new.self.block.items
+    c.in_ok-refill.field-0 now.invariant.1 c.in_ok-refill.ensures.cut (2 ^ 64)
+    (omega (arith, c.in_err-taken.ensures.range, c.lines-lines.ensures))
