@@ -15,11 +15,11 @@ use Rattle.nb_tally.specs.declared.fields.Column.{Column}
 
 -- ---- what is counted of lines
 
-counted-none : (column : Option Column) → counted_of column [] ≡ []
+pub counted-none : (column : Option Column) → counted_of column [] ≡ []
 counted-none None = refl
 counted-none (Some column) = refl
 
-counted-append :
+pub counted-append :
     (column : Option Column) (lines more : List (List ℕ))
     → counted_of column (lines ++ more) ≡ counted_of column lines ++ counted_of column more
 counted-append None lines more = refl

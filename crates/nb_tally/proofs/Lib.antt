@@ -1,3 +1,4 @@
 -- Lemmas.
 pub mod CountedLemmas
 pub mod FieldsLemmas
+pub mod ForgottenLemmas

@@ -9,6 +9,7 @@
 pub(crate) mod counting;
 pub(crate) mod fields;
 pub(crate) mod lines_counted;
+pub(crate) mod lines_forgotten;
 pub(crate) mod options;
 pub(crate) mod printing;
 pub(crate) mod serve;

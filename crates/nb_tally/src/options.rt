@@ -51,6 +51,9 @@ const FIELD: NumberWord = NumberWord {
 /// `--delimiter C`: the byte between two fields.
 const DELIMITER: &str = "--delimiter";
 
+/// `--forget`.
+const FORGET: &str = "--forget";
+
 /// What is asked for.
 #[derive(Clone, Copy)]
 pub(crate) enum Task {
@@ -87,6 +90,8 @@ pub(crate) struct LineOptions {
     pub(crate) top: Option<u64>,
     /// How much may be kept for lines, if that is limited.
     pub(crate) limit: Option<MemoryLimit>,
+    /// Whether the rarest lines are forgotten where some may not fit.
+    pub(crate) forgets: bool,
 }
 
 /// What numbers are to be counted, and how.
@@ -126,6 +131,12 @@ With --memory it stops before lines that may not fit, prints the counts of those
 before them, which are exact, and says after how many lines it stopped. For each
 different line it keeps the bytes of the line and 56 more, and the map has some 24
 to 96; a block of input, 1 MiB or a line, comes on top.
+
+With --forget it doesn't stop there, but forgets half of the lines that it keeps or
+more, the rarest ones, and goes on. Two numbers are printed before a line: it came
+so many times at least, and so many at most. They differ by the same number for
+each line, and a line that isn't printed, even with all lines, came no more often
+than that. While it forgets it takes the bytes of the lines that stay once more.
 
 With --numbers each line is one number from 0 to 18446744073709551613, in digits
 only. It ends with a newline, or with a carriage return and a newline. Numbers are
@@ -185,6 +196,11 @@ pub(crate) const LINE: CommandLine = CommandLine {
             help: "Keep no more than so many bytes for lines, and stop before some that may not fit; 65536 to 1152921504606846975",
         },
         Argument {
+            form: Form::Flag(FORGET),
+            default: None,
+            help: "With --memory, forget the rarest lines and go on, and print how often each came at least and at most",
+        },
+        Argument {
             form: Form::Number(SEED, "N"),
             default: None,
             help: "Hash lines by the key N, and not by one from the machine's randomness; 0 to 18446744073709551615",
@@ -214,6 +230,7 @@ pub(crate) fn task_of(alloc: Global, given: &Given) -> Result<Task, WordsFault> 
         order: order_of(alloc, given, top)?,
         top,
         limit: limit_of(alloc, given)?,
+        forgets: forgets(alloc, given)?,
     }))
 }
 
@@ -228,12 +245,27 @@ fn limit_of(alloc: Global, given: &Given) -> Result<Option<MemoryLimit>, WordsFa
     }
 }
 
-/// To count numbers, whose order isn't asked for, nor a column of them, nor how much is kept.
+/// Whether lines are to be forgotten, for which there has to be a limit.
+fn forgets(alloc: Global, given: &Given) -> Result<bool, WordsFault> {
+    let is_asked = given.is_set(FORGET);
+    if is_asked && given.text(MEMORY.name).is_none() {
+        let complaint = "nothing has to be forgotten";
+        return Err(wrong_word(alloc, FORGET, "without --memory", complaint));
+    }
+    Ok(is_asked)
+}
+
+/// To count numbers, whose order isn't asked for, nor a column of them, nor how much is kept, nor what
+/// is forgotten.
 fn numbers_of(alloc: Global, given: &Given, options: Options) -> Result<Task, WordsFault> {
     for name in [BY, FIELD.name, DELIMITER, MEMORY.name] {
         if let Some(word) = given.text(name) {
             return Err(wrong_word(alloc, name, word, "not with --numbers"));
         }
+    }
+    if given.is_set(FORGET) {
+        let complaint = "no lines are counted";
+        return Err(wrong_word(alloc, FORGET, "with --numbers", complaint));
     }
     Ok(Task::Numbers(options))
 }

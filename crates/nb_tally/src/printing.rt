@@ -1,6 +1,6 @@
 //! Printing, in the form of `uniq -c`.
 ghost use Rattle.std.specs.List.Sorted.{IsPermutation, IsSorted};
-ghost use Rattle.std.specs.Prelude.{◌≡◌};
+ghost use Rattle.std.specs.Prelude.{◌≡◌, ◌+◌, ◌-◌, ◌^◌, min};
 ghost use Rattle.nb_tally.specs.Sorting.{HasOrdered, row_cmp};
 ghost use Rattle.nb_tally.specs.declared.options.Order.TheVariants as order;
 
@@ -78,31 +78,53 @@ fn put_in_order(alloc: Global, rows: &mut [Row<'_>], options: &LineOptions)
     }
 }
 
-/// Prints a line for each row.
+/// Prints a line for each row. Where lines were missed, so many times at most, it has two numbers: how
+/// often its line came at least, and how often at most.
 pub(crate) fn print_rows<W: Write + Drop>(
     alloc: Global,
     writer: W,
     rows: &[Row<'_>],
+    missed: Option<u64>,
 ) -> Result<(), ProgramFault> {
     let Ok(mut writer) = BufWriter::new(alloc, writer) else {
         return Err(ProgramFault::OutOfMemory);
     };
-    match print_rows_to(&mut writer, rows) {
+    match print_rows_to(&mut writer, rows, missed) {
         Ok(()) => Ok(()),
         Err(_) => Err(ProgramFault::Write),
     }
 }
 
 /// The same, to a writer that may hold back what it is given.
-fn print_rows_to<W: Write>(writer: &mut W, rows: &[Row<'_>]) -> io::Result<()> {
-    let mut digits = Buffer::new();
+fn print_rows_to<W: Write>(
+    writer: &mut W,
+    rows: &[Row<'_>],
+    missed: Option<u64>,
+) -> io::Result<()> {
     for Row { line, times, .. } in rows {
-        let times = digits.format(*times);
-        writer.write_all(&SPACES[times.len().min(SPACES.len())..])?;
-        writer.write_all(times.as_bytes())?;
-        writer.write_all(b" ")?;
+        print_times(writer, *times)?;
+        if let Some(missed) = missed {
+            print_times(writer, most_of(*times, missed))?;
+        }
         writer.write_all(line)?;
         writer.write_all(b"\n")?;
     }
     writer.flush()
+}
+
+/// Prints a number and a space.
+fn print_times<W: Write>(writer: &mut W, times: u64) -> io::Result<()> {
+    let mut digits = Buffer::new();
+    let digits = digits.format(times);
+    writer.write_all(&SPACES[digits.len().min(SPACES.len())..])?;
+    writer.write_all(digits.as_bytes())?;
+    writer.write_all(b" ")
+}
+
+/// How often a line came at most that came so often at least, and was missed so many times at most.
+/// No line comes more often than a word can tell.
+fn most_of(times: u64, missed: u64) -> u64
+    ensures { result ≡ min (times + missed) (2 ^ 64 - 1) }
+{
+    times.saturating_add(missed)
 }

@@ -3,6 +3,7 @@ ghost use Rattle.std.specs.Prelude.{◌≡◌, length};
 
 use crate::counting::tally;
 use crate::lines_counted::{Counted, tally_lines};
+use crate::lines_forgotten::{Missed, RoughTally, RoughlyCounted, tally_roughly};
 use crate::options::{LINE, LineOptions, Options, Task, task_of};
 use crate::printing::{print, print_rows, sort, sort_rows};
 use nb_lines::{ProgramFault, ProgressMeter};
@@ -46,11 +47,51 @@ where
         progress,
     };
     let mut reader = reader;
+    if options.forgets {
+        return lines_roughly(rt, options, plan, &mut reader);
+    }
     let counted = tally_lines(rt, rt.alloc(), plan, options.column, &mut reader);
     progress.end(rt);
     let Counted { tally, taken } = counted?;
-    print_tally(rt.alloc(), io::writer(rt), &tally, options)?;
+    print_tally(rt.alloc(), io::writer(rt), &tally, None, options)?;
     taken.ended()
+}
+
+/// Counts lines but for the rarest, prints what was counted, and tells what may be missed.
+fn lines_roughly<R, I>(
+    rt: &R,
+    options: LineOptions,
+    plan: LinePlan,
+    reader: &mut I,
+) -> Result<(), ProgramFault>
+where
+    R: Threads + Sync + Wait + Print + Eprint + AllocGlobal,
+    I: Read,
+{
+    let counted = tally_roughly(rt, rt.alloc(), plan, options.column, reader);
+    plan.progress.end(rt);
+    let RoughlyCounted { rough, taken } = counted?;
+    let RoughTally { tally, missed } = rough;
+    print_tally(
+        rt.alloc(),
+        io::writer(rt),
+        &tally,
+        Some(missed.times),
+        options,
+    )?;
+    tell_missed(rt, missed);
+    taken.ended()
+}
+
+/// Tells how often lines were forgotten, if they were, and what that means for the counts.
+fn tell_missed<R: Eprint>(rt: &R, missed: Missed) {
+    let Missed { times, cuts } = missed;
+    if cuts > 0 {
+        let name = LINE.name;
+        let _ = eprintln!(rt;
+            "{name}: forgot lines {cuts} times; each may have come {times} times more than told"
+        );
+    }
 }
 
 /// Prints the lines that are asked for, in the order that is asked for.
@@ -58,13 +99,14 @@ fn print_tally<W: io::Write + Drop>(
     alloc: Global,
     writer: W,
     tally: &LineTally,
+    missed: Option<u64>,
     options: LineOptions,
 ) -> Result<(), ProgramFault>
     requires { length tally.now.counts.items ≡ length tally.now.catalog.texts }
 {
     let mut rows = tally.rows(alloc)?;
     sort_rows(alloc, &mut rows, &options);
-    print_rows(alloc, writer, rows.as_slice())
+    print_rows(alloc, writer, rows.as_slice(), missed)
 }
 
 /// The key of the hash function: the one that is given, or else one from the machine's randomness.
