@@ -79,6 +79,7 @@ impl Guest {
     /// What the map has at a key, by one `get` of its handle. It waits while another has that, to
     /// renew the map or to count it.
     pub fn get<R: Wait>(&mut self, rt: &R, key: Key) -> Option<Num>
+        ensures of { self.new.of ≡ self.old.of }
         ensures replied { GuestHasReplied (call.Get key) self.old self.new
             (reply_at (call.Get key) result) }
         ensures read { GuestHasRead key self.old self.new result }
@@ -97,6 +98,7 @@ impl Guest {
         want: Want,
         change: Change,
     ) -> Result<Reply, WriteFault>
+        ensures of { self.new.of ≡ self.old.of }
         ensures wrote { IfOk result
             (GuestHasReplied (call.Write key want change) self.old self.new) }
         ensures refused { IfErr result
@@ -248,6 +250,7 @@ impl Guest {
     /// guest's call, as a renewal does, and takes memory for some vectors of as many handles as
     /// there are guests.
     pub fn size<R: Wait>(&mut self, rt: &R) -> Result<u64, OutOfMemory>
+        ensures of { self.new.of ≡ self.old.of }
         ensures called { GuestHasCalled self.old self.new [] }
         ensures size { IfOk result (λ size.
             size ≡ length (numbers.entries (map_of_log self.new.log))) }
@@ -308,6 +311,7 @@ impl Guest {
         change: Change,
     ) -> Result<Reply, GrowFault>
         requires no_sum { NeverOverflows (call.Write key want change) }
+        ensures of { self.new.of ≡ self.old.of }
         ensures wrote { IfOk result
             (GuestHasReplied (call.Write key want change) self.old self.new) }
         ensures refused { IfErr result (λ fault. GuestIsRefused (call.Write key want change)
@@ -326,6 +330,7 @@ impl Guest {
     fn change<R: Wait>(&mut self, rt: &R, key: Key, want: Want, change: Change) -> Reply
         requires no_sum { NeverOverflows (call.Write key want change) }
         requires fills_none { Fills (call.Write key want change) → ⊥ }
+        ensures of { self.new.of ≡ self.old.of }
         ensures replied { GuestHasReplied (call.Write key want change) self.old self.new result }
         ensures worked { GuestHasWorked (call.Write key want change) self.old self.new }
     {
@@ -337,6 +342,7 @@ impl Guest {
 
     /// Puts a number at a key, and answers what was there.
     pub fn put<R: Wait>(&mut self, rt: &R, key: Key, number: Num) -> Result<Option<Num>, GrowFault>
+        ensures of { self.new.of ≡ self.old.of }
         ensures wrote { IfOk result (GuestHasFound (put_of key number) self.old self.new) }
         ensures refused { IfErr result (λ fault. GuestIsRefused (put_of key number)
             self.old self.new (as_write_fault fault)) }
@@ -354,6 +360,7 @@ impl Guest {
         key: Key,
         number: Num,
     ) -> Result<Option<Num>, GrowFault>
+        ensures of { self.new.of ≡ self.old.of }
         ensures wrote { IfOk result
             (GuestHasFound (put_if_absent_of key number) self.old self.new) }
         ensures refused { IfErr result (λ fault. GuestIsRefused (put_if_absent_of key number)
@@ -367,6 +374,7 @@ impl Guest {
 
     /// Raises the number at a key, an absent one counting as 0, and answers what was there.
     pub fn add<R: Wait>(&mut self, rt: &R, key: Key, number: Num) -> Result<Option<Num>, WriteFault>
+        ensures of { self.new.of ≡ self.old.of }
         ensures wrote { IfOk result (GuestHasFound (add_of key number) self.old self.new) }
         ensures refused { IfErr result (GuestIsRefused (add_of key number) self.old self.new) }
         ensures worked { GuestHasWorked (add_of key number) self.old self.new }
@@ -377,6 +385,7 @@ impl Guest {
 
     /// Puts a number at a key that has one, and answers what was there.
     pub fn replace<R: Wait>(&mut self, rt: &R, key: Key, number: Num) -> Option<Num>
+        ensures of { self.new.of ≡ self.old.of }
         ensures found { GuestHasFound (replace_of key number) self.old self.new result }
         ensures worked { GuestHasWorked (replace_of key number) self.old self.new }
     {
@@ -387,6 +396,7 @@ impl Guest {
 
     /// Puts a number in place of this one, and answers whether it did.
     pub fn replace_if<R: Wait>(&mut self, rt: &R, key: Key, old: Num, new: Num) -> bool
+        ensures of { self.new.of ≡ self.old.of }
         ensures matched { GuestHasMatched (replace_if_of key old new) self.old self.new result }
         ensures worked { GuestHasWorked (replace_if_of key old new) self.old self.new }
     {
@@ -397,6 +407,7 @@ impl Guest {
 
     /// Takes out a key, and answers what was there.
     pub fn remove<R: Wait>(&mut self, rt: &R, key: Key) -> Option<Num>
+        ensures of { self.new.of ≡ self.old.of }
         ensures found { GuestHasFound (remove_of key) self.old self.new result }
         ensures worked { GuestHasWorked (remove_of key) self.old self.new }
     {
@@ -405,6 +416,7 @@ impl Guest {
 
     /// Takes out a key that has this number, and answers whether it did.
     pub fn remove_if<R: Wait>(&mut self, rt: &R, key: Key, number: Num) -> bool
+        ensures of { self.new.of ≡ self.old.of }
         ensures matched { GuestHasMatched (remove_if_of key number) self.old self.new result }
         ensures worked { GuestHasWorked (remove_if_of key number) self.old self.new }
     {

@@ -1,4 +1,4 @@
-use Rattle.std.proofs.Common.{◌∷◌, [], refl, subst}
+use Rattle.std.proofs.Common.{◌∷◌, [], ap, refl, subst}
 use Rattle.nb_core.specs.Log.{log_of, reply_at}
 use Rattle.nb_core.specs.declared.calls.Call.TheVariants.{Get}
 use Rattle.nb_lasting.specs.Guests.{GuestHasCalled, GuestHasRead, GuestOf}
@@ -17,6 +17,7 @@ returns g c =
     } in
     let made = (Get c.args.key, reply_at (Get c.args.key) c.get_through.result) ∷ [] in
     record {
+      of = ap (λ (guest : GuestOf). guest.of) c.self.view_is;
       replied = subst (λ (guest : GuestOf). GuestHasCalled guest after made) c.self.view_is
           (called_through (guest_of c.self.inside) after c.self.inside.token.me.0
           c.get_through.new.token.me.0 made refl refl refl refl c.get_through.ensures.called);

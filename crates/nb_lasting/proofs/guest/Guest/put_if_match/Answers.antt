@@ -1,6 +1,6 @@
-use Rattle.std.proofs.Common.{◌∷◌, []}
+use Rattle.std.proofs.Common.{◌∙◌, ◌∷◌, [], ap}
 use Rattle.nb_core.specs.declared.calls.Call.TheVariants.{Write}
-use Rattle.nb_lasting.specs.Guests.{GuestIsRefused, left_with}
+use Rattle.nb_lasting.specs.Guests.{GuestIsRefused, GuestOf, left_with}
 use Rattle.nb_lasting.proofs.Visiting.{if-err, then-first, then-refused}
 use Rattle.nb_lasting.proofs.Working.{counted-replied, worked-counted, worked-once}
 use Rattle.nb_lasting.proofs.guest.Guest.put_if_match.Goals as goal
@@ -37,3 +37,12 @@ returns-clause-worked g c =
     c.renew_in_time.ensures.called c.renew_in_time.ensures.same c.renew_in_time.ensures.due
     c.renew_in_time.ensures.left c.write.ensures.once c.write.ensures.left
     c.in_ok-reply.ensures.wrote c.count.ensures
+
+pub returns-in_err-reply-clause-of : goal.returns-in_err-reply-clause-of
+returns-in_err-reply-clause-of g c =
+    c.in_err-reply.ensures.refused.unmade.of ∙ c.renew_in_time.ensures.called.of
+
+pub returns-clause-of : goal.returns-clause-of
+returns-clause-of g c =
+    ap (λ (guest : GuestOf). guest.of) c.count.ensures
+    ∙ c.in_ok-reply.ensures.wrote.of ∙ c.renew_in_time.ensures.called.of
