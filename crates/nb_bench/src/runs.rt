@@ -69,7 +69,9 @@ pub(crate) fn measure<R: Threads + Sync + Wait + Clock + Eprint>(
         progress: options.progress,
     };
     let Tally {
-        calls, nanoseconds, ..
+        calls,
+        nanoseconds,
+        ..
     } = match options.by {
         By::Seat => do_job(rt, alloc, options.shape()?, options.spacing, half, &job)?.tally,
         By::Handle | By::Guest => callers::measure(rt, alloc, options, half, &job)?,
