@@ -1,17 +1,21 @@
-// dashmap with the fx hash: shards of hash tables, each with a lock for readers and writers.
+// dashmap: shards of hash tables, each with a lock for readers and writers. It has the fx hash; or, with HASH=own, the one that it has if
+// none is named, which has a secret.
 mod workloads;
 
 use dashmap::DashMap;
 use fxhash::FxBuildHasher;
+use std::collections::hash_map::RandomState;
+use std::env;
+use std::hash::BuildHasher;
 use workloads::{Peer, SMALLEST};
 
-struct Dash(DashMap<u64, u64, FxBuildHasher>);
+struct Dash<S>(DashMap<u64, u64, S>);
 
-impl Peer for Dash {
-    fn new(size: usize) -> Dash {
+impl<S: BuildHasher + Clone + Default + Send + Sync> Peer for Dash<S> {
+    fn new(size: usize) -> Dash<S> {
         match size {
-            SMALLEST => Dash(DashMap::default()),
-            _ => Dash(DashMap::with_capacity_and_hasher(size, Default::default())),
+            SMALLEST => Dash(DashMap::with_hasher(S::default())),
+            _ => Dash(DashMap::with_capacity_and_hasher(size, S::default())),
         }
     }
 
@@ -29,5 +33,8 @@ impl Peer for Dash {
 }
 
 fn main() {
-    workloads::run::<Dash>("dash");
+    match env::var("HASH").as_deref() {
+        Ok("own") => workloads::run::<Dash<RandomState>>("dash"),
+        _ => workloads::run::<Dash<FxBuildHasher>>("dash"),
+    }
 }
