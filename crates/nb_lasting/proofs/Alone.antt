@@ -35,8 +35,8 @@ use Rattle.nb_map.specs.Renewing.{HasRenewed, HasTooMany, IsKept}
 use Rattle.nb_map.specs.Settling.{HasCaughtUp, HaveSettled}
 use Rattle.nb_map.specs.declared.faults.PutFault.{PutFault}
 use Rattle.nb_map.specs.declared.faults.PutFault.TheVariants as fault
-use Rattle.nb_lasting.specs.Lasting.{Finds, IsMadeOn}
-use Rattle.nb_lasting.specs.inside.Present.{HasSlots, IsAlone, IsFresh, IsRefusedHere, content, keys_in, last_size}
+use Rattle.nb_lasting.specs.Lasting.{Finds, HasSlots, IsMadeOn, last_size}
+use Rattle.nb_lasting.specs.inside.Present.{IsAlone, IsFresh, IsRefusedHere, content, keys_in}
 
 -- ---- entries of the first seat
 

@@ -20,9 +20,11 @@ use Rattle.nb_lasting.proofs.Sharing.{current_here}
 use Rattle.nb_lasting.specs.Epochs.{HasGoneOnBy}
 use Rattle.nb_lasting.specs.Gathered.{HaveTooMany, IsPartedCounted}
 use Rattle.nb_lasting.specs.Holding.{HasCalledIn, IsIdleGuest}
-use Rattle.nb_lasting.specs.Renewal.{AreHeld, AreStill, CanComeHome, HasRoomAnew, KnowOneLog, HoldsStill, IsFullAt, blanks, down}
+use Rattle.nb_lasting.specs.Renewal.{AreHeld, AreStill, CanComeHome, HasBegunAs, HasRoomAnew, KnowOneLog, HoldsStill, IsFullAt, blanks, down}
+use Rattle.nb_lasting.specs.Visits.{HasMadeMapAnew, SharedOf, keys_known}
+use Rattle.nb_lasting.specs.declared.shared.Account.{Account}
 use Rattle.nb_lasting.specs.declared.shared.LaneView.{LaneView}
-use Rattle.nb_lasting.specs.inside.Present.{HasSlots}
+use Rattle.nb_lasting.specs.Lasting.{HasSlots}
 
 -- what a token had seen before it gathered
 pub called-from :
@@ -177,6 +179,25 @@ module _
             (log_of (known.0.know own)) [] [] (holds.mine own below guest) (known.0.gone own below);
         room = subst (λ k. HasSlots k then.map.chain.shape)
             (twice ∙ ap (λ k. max (2 * k) least) (counts.at own first.0 first.1).keys) room;
+      }
+
+  -- so it is in the account
+  pub made-anew :
+      (result : Result ℕ SettleFault) → IsPartedCounted before after result → (size : ℕ)
+      → result ≡ Ok size → (p : Plan) (keys : ℕ) (of : SharedOf) → keys ≡ max (2 * size) of.least
+      → HasSlots keys p → (a b : Account) → HasBegunAs p after a b → HasMadeMapAnew of a b
+  made-anew result is size counted p keys of twice room a b begun =
+      let known = still-by result is in
+      let counts = if-ok result size
+      (AreCountedIn me.0.map known.0.know before after) counted known.1 in
+      let same : keys_known begun.first ≡ size =
+      ap (λ (c : Numbers). length (numbers.entries c))
+      (begun.same (record { whole = counts.whole; logs = counts.logs })) ∙ sym counts.keys in
+      record {
+        first = begun.first;
+        account = begun.account;
+        room = subst (HasSlots (max (2 * keys_known begun.first) of.least)) (sym begun.shape)
+            (subst (λ k. HasSlots k p) (twice ∙ ap (λ k. max (2 * k) of.least) (sym same)) room);
       }
 
   -- all have one log

@@ -20,7 +20,8 @@ use Rattle.nb_lasting.proofs.Refused.{renewed-all}
 use Rattle.nb_lasting.proofs.Renewed.{all-from, at-all}
 use Rattle.nb_lasting.specs.Gathered.{AreSingle, IsPartedAnew, IsSingle}
 use Rattle.nb_lasting.specs.Renewal.{AreHeld, AreRenewed, CanComeHome, CanDealAnew, CanDealBelow, KnowOneLog, HoldsBelow, HoldsStill, IsIdleToken, blanks, down}
-use Rattle.nb_lasting.specs.Shared.{Has, HasBegunAnew, HasDealt, HasGiven, HasTaken, Holds, IsCurrent, IsLane, IsOfGuest, FitsLanes, KnowsIn, all_knew, as_guest, given, known_in, known_of, log_in, map_in, rest_outs, account_in, times_out}
+use Rattle.nb_lasting.specs.Shared.{Has, HasBegunAnew, HasDealt, HasGiven, HasTaken, Holds, IsCurrent, IsLane, IsOfGuest, FitsLanes, KnowsIn, all_knew, as_guest, given, known_in, known_of, log_in, map_in, rest_outs, account_in, begun_in, times_out}
+use Rattle.nb_lasting.specs.Visits.{began, gave}
 use Rattle.nb_lasting.specs.declared.shared.Account.{Account}
 use Rattle.nb_lasting.specs.declared.shared.Out.{Out}
 use Rattle.nb_lasting.specs.declared.shared.LaneView.{LaneView}
@@ -52,7 +53,7 @@ snoc_at [] y i x at = absurd (omega (arith, slice_get_within [] i x at))
 snoc_at (z ∷ xs) y zero x at = at
 snoc_at (z ∷ xs) y (suc i) x at = snoc_at xs y i x at
 
-snoc_last : {X : Type 0} (xs : List X) (y : X) → slice_get (xs ++ y ∷ []) (length xs) ≡ Some y
+pub snoc_last : {X : Type 0} (xs : List X) (y : X) → slice_get (xs ++ y ∷ []) (length xs) ≡ Some y
 snoc_last [] y = refl
 snoc_last (z ∷ xs) y = snoc_last xs y
 
@@ -465,6 +466,23 @@ module _
               (sym is-out.1) (can.anew.met out.lane is-out.0);
         };
       }
+
+  -- the account, when the last handle has gone home: by its guest, by another, or first of a new map
+  pub given-account : HasGiven new after → after.0.account ≡ gave handle me.0.account
+  given-account gone =
+      ap (λ (v : LaneView). v.account) gone.0
+      ∙ ap (λ (slots : List (ℕ × Option HandleOf)). account_in slots new.0.account) new-slot
+      ∙ ap (λ (v : LaneView). gave handle v.account) new-view
+
+  pub dealt-account : HasDealt new after → after.0.account ≡ me.0.account
+  dealt-account gone =
+      ap (λ (v : LaneView). v.account) gone.0 ∙ ap (λ (v : LaneView). v.account) new-view
+
+  pub begun-account : HasBegunAnew new after → after.0.account ≡ began handle me.0.account
+  begun-account gone =
+      ap (λ (v : LaneView). v.account) gone.3
+      ∙ ap (λ (slots : List (ℕ × Option HandleOf)). begun_in slots new.0.account) new-slot
+      ∙ ap (λ (v : LaneView). began handle v.account) new-view
 
   pub begun-map :
       (can : CanDealAnew (lane + 1) me before) → HasBegunAnew new after

@@ -13,6 +13,8 @@ pub mod Dealt
 pub mod Calling
 pub mod Counted
 pub mod Written
+pub mod Homes
+pub mod Going
 pub mod Logged
 pub mod Sizes
 pub mod Handing

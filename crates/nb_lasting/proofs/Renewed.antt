@@ -2,7 +2,7 @@
 use Rattle.std.proofs.Common.{◌≡◌, ◌∙◌, ◌++◌, ◌<◌, ◌≤◌, ◌^◌, ℕ, cond, zero, suc, List, [], ◌∷◌, All, Some, ap, inl, inr, length, map, refl, slice_get, subst, sym, arith}
 use Rattle.std.specs.FinMap as numbers
 use Rattle.std.specs.List.{AllZip, range_with_len}
-use Rattle.std.specs.Prelude.{◌-◌, Err, IfOk, None, Ok, Option, Result, get_or, option_map, unwrap_or}
+use Rattle.std.specs.Prelude.{◌-◌, Err, IfOk, None, Ok, OnOk, Option, Result, ⊤, get_or, option_map, unwrap_or}
 use Rattle.std.proofs.lemmas.Bool.{eq-eqb}
 use Rattle.std.proofs.lemmas.List.{append_cancel_right, length-map}
 use Rattle.std.proofs.lemmas.List.Elements.{All-append, All-cons, All-head, All-nil, All-tail}
@@ -26,15 +26,17 @@ use Rattle.nb_map.specs.Logs.{HasLogged, log}
 use Rattle.nb_map.specs.Maps.{MapOf, SeatOf, new_seat, new_seats}
 use Rattle.nb_map.specs.Renewing.{HasRenewed}
 use Rattle.nb_map.specs.Settling.{HasCaughtUp}
+use Rattle.nb_map.specs.declared.faults.RenewFault.{RenewFault}
 use Rattle.nb_map.specs.declared.faults.SettleFault.{SettleFault}
 use Rattle.nb_lasting.proofs.Calling.{crowded-away, known-then}
 use Rattle.nb_lasting.proofs.Epochs.{leaves, one_log_for_all}
 use Rattle.nb_lasting.proofs.Sharing.{log-as-events}
 use Rattle.nb_lasting.specs.Epochs.{AllKnow, EpochOf, HasGoneOnBy, HaveMetIn, IsOfEpoch, Knows}
-use Rattle.nb_lasting.specs.Gathered.{HaveTooMany, IsPartedCounted, AreSingle, seats_of_each}
-use Rattle.nb_lasting.specs.Renewal.{AreAnew, AreHeld, AreStill}
+use Rattle.nb_lasting.specs.Gathered.{HaveTooMany, IsPartedAnew, IsPartedCounted, AreSingle, seats_of_each}
+use Rattle.nb_lasting.specs.Lasting.{HasSlots}
+use Rattle.nb_lasting.specs.Renewal.{AreAnew, AreHeld, AreStill, HasBegunAs, HasBegunBy}
 use Rattle.nb_lasting.specs.Shared.{EpochIn, IsLane, IsOfGuest, KnowsIn, as_events, known_of}
-use Rattle.nb_lasting.specs.inside.Present.{HasSlots}
+use Rattle.nb_lasting.specs.declared.shared.Account.{Account}
 
 -- ---- lists by index
 
@@ -484,6 +486,49 @@ has-room-left p n m filled past know counted-know before after size keys some he
       | inl more ↦ omega (arith, more, fewer, many.2.small, keys-left, counted.keys)
       | inr great ↦ omega (arith, great, few, many.2.small, keys-left, counted.keys)
     ]
+
+-- the first handle that goes home, of a new map, knows what the old one's handles knew
+pub begun-as :
+    (p : Plan) (n : ℕ) (m : MapOf) (filled past : List Event) (know : ℕ → List Event)
+    (before after : List HandleOf) (a b : Account) (result : Result ⊤ RenewFault) → 1 ≤ n
+    → AreHeld m filled past n know before → IsPartedAnew p before after result
+    → HasBegunBy after a b → OnOk result (HasBegunAs p before a b)
+begun-as p n m filled past know before after a b (Err fault) some held is begun = tt
+begun-as p n m filled past know before after a b (Ok done) some held is begun = record {
+  first = begun.first;
+  account = begun.account;
+  shape = ap (λ (h : HandleOf). h.map.chain.shape) seat.2 ∙ is.renewed.begun.made.shape;
+  same = λ one.
+      ap (λ (h : HandleOf). map_of_log (log h.seat)) seat.2
+      ∙ ap map_of_log
+      (at-all (λ s. log s ≡ is.renewed.begun.begun.whole) (seats_of is.whole) begun.place seat.0
+      is.renewed.begun.begun.logs seat.1)
+      ∙ is.renewed.begun.begun.leaves
+      ∙ ap map_of_log
+      (one-left (seats_of_each before) one.whole first is.renewed.ended left at (λ i s here.
+      let h = handle-at before i s here in (
+        ap log (sym h.2) ∙ one.logs i h.0 h.1,
+        ap (λ (x : SeatOf). x.chain.number) (sym h.2) ∙ (held.each i h.0 h.1).0.number,
+      )));
+}
+  where
+    seat :
+        (s : SeatOf) × (slice_get (seats_of is.whole) begun.place ≡ Some s)
+        × (begun.first ≡ handle_on is.whole.map s)
+    seat =
+        mapped-at is.whole.map (seats_of is.whole) begun.place begun.first
+        (ap (λ l. slice_get l begun.place) (sym is.parted) ∙ begun.there)
+
+    first : SeatOf
+    first = get_or (seats_of_each before) 0 is.joined.seat
+
+    at : slice_get (seats_of_each before) 0 ≡ Some first
+    at =
+        slice_get-get_or (seats_of_each before) 0 is.joined.seat
+        (omega (arith, length-each before, held.count, some))
+
+    left : EndedWith (seats_of_each before) is.renewed.ended
+    left = subst (λ seats. EndedWith seats is.renewed.ended) is.seats is.renewed.left
 
 module _
     (p : Plan) (m : MapOf) (e : EpochIn) (knew : ℕ → List Event) (before : List HandleOf)

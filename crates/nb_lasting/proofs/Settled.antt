@@ -29,6 +29,7 @@ use Rattle.nb_lasting.specs.Holding.{CanGive}
 use Rattle.nb_lasting.specs.Renewal.{AreHeld, AreStill, HoldsBelow, HoldsStill}
 use Rattle.nb_lasting.specs.Settling.{CanSettle, HasLent, KnowFrom}
 use Rattle.nb_lasting.specs.Shared.{FitsLanes, HasGiven, IsOfGuest, as_events, as_guest, account_in, guest_left, known_in, known_of}
+use Rattle.nb_lasting.specs.Visits.{SharedOf}
 use Rattle.nb_lasting.specs.declared.shared.LaneView.{LaneView}
 
 -- ---- the guest's place goes on, and what is held stays
@@ -246,7 +247,7 @@ further guest middle whole made on gone =
 
 -- they are the map's still
 pub still-of :
-    {E : Type 0} (id : TableId) (before after : List GuestOf) (result : Result ℕ E)
+    {E : Type 0} (id : SharedOf) (before after : List GuestOf) (result : Result ℕ E)
     → IfOk result (GuestsHaveSettled before after) → OnErr result (after ≡ before)
     → All (λ guest. guest.of ≡ id) before
     → All (λ guest. guest.of ≡ id) after

@@ -21,7 +21,7 @@ use Rattle.nb_lasting.specs.Epochs.{HasGoneOnBy}
 use Rattle.nb_lasting.specs.declared.shared.Account.{Account}
 use Rattle.nb_lasting.specs.declared.shared.Out.{Out}
 use Rattle.nb_lasting.specs.declared.shared.LaneView.{LaneView}
-use Rattle.nb_lasting.specs.Visits.{gave, took}
+use Rattle.nb_lasting.specs.Visits.{began, gave, took}
 use Rattle.nb_lasting.specs.Shared.{Deals, EpochIn, Gives, IsOfGuest, Marks, FitsLanes, Renews, as_events, dealer_left, first_lane_view, new_guest, next_dealer, known_of, rest_outs, Has, HasTaken, Holds, HoldsAnew, IsOfMap, IsCurrent, IsLane, IsOneLog, KnowsIn, LaneMoment, Takes, absent, all_knew, given, given_anew, holders, times_out, word_of}
 
 abbrev Homes : Type 0
@@ -953,9 +953,9 @@ module _
   anew-keeps :
       IsOneLog p
       (stepped s (word_of lane) 0 id ((lane, Some handle) ∷ more)
-      (given_anew v outs handle.map next.filled next.past) gives)
+      (given_anew v outs handle.map next.filled next.past (began handle v.account)) gives)
   anew-keeps =
-      back-keeps p s rule id v (given_anew v outs handle.map next.filled next.past) lane knew handle
+      back-keeps p s rule id v (given_anew v outs handle.map next.filled next.past (began handle v.account)) lane knew handle
       more at within refl refl
       (λ i. ap (times_out i) view ∙ ap (λ n. if i == lane then 1 + n else n)
       (sym (times_all_knew i next.past outs)))
@@ -1077,7 +1077,7 @@ anew_allowed p slots id me lane knew handle next within holds =
     (λ _. 0)
     (λ _. Renews (step slots (word_of lane) 0 0 none) (me.0, c) 0)) (sym holds.slot)
     (λ s rule homes at fits. (
-      given_anew me.0 holds.outs handle.map next.filled next.past,
+      given_anew me.0 holds.outs handle.map next.filled next.past (began handle me.0.account),
       gives,
       tt,
       anew-keeps p s rule id me.0 lane knew holds.outs handle next (rest me.1) at within holds.view
@@ -1086,7 +1086,8 @@ anew_allowed p slots id me lane knew handle next within holds =
         next,
         anew-log next handle.seat holds.knows,
         holds.met,
-        ap (λ outs. given_anew me.0 (rest_outs outs) handle.map next.filled next.past)
+        ap (λ outs. given_anew me.0 (rest_outs outs) handle.map next.filled next.past
+            (began handle me.0.account))
             (sym holds.view),
         refl,
       ),

@@ -6,7 +6,7 @@ use Rattle.std.proofs.lemmas.Bool.{cases_lt}
 use Rattle.nb_core.specs.Plans.{HasRoomFor, Plan, generations_of}
 use Rattle.std.proofs.Common.{get_or}
 use Rattle.nb_core.specs.declared.shapes.TheConstants.{MOST_KEYS}
-use Rattle.nb_lasting.specs.inside.Present.{HasSlots}
+use Rattle.nb_lasting.specs.Lasting.{HasSlots}
 
 -- a table with nearly as many slots as the greatest one is the greatest
 greatest : (e : ℕ) → 268435455 ≤ 2 ^ e → 2 ^ 28 ≤ 2 ^ e

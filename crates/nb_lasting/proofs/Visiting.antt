@@ -10,7 +10,8 @@ use Rattle.nb_map.specs.Ending.{EndedOf, map_left}
 use Rattle.nb_lasting.proofs.Dealt.{there_is}
 use Rattle.nb_lasting.proofs.Epochs.{goes_on}
 use Rattle.nb_lasting.specs.Epochs.{HasGoneOnBy}
-use Rattle.nb_lasting.specs.Guests.{GoesOnTo, GuestHasCalled, GuestHasReplied, GuestIsRefused, GuestOf, HaveCalled, HaveCome, HaveEnded, IsOneLogOf, OneLogOfGuests, SharedOf}
+use Rattle.nb_lasting.specs.Guests.{GoesOnTo, GuestHasCalled, GuestHasReplied, GuestIsRefused, GuestOf, HaveCalled, HaveCome, HaveEnded, IsOneLogOf, OneLogOfGuests}
+use Rattle.nb_lasting.specs.Visits.{SharedOf}
 use Rattle.nb_lasting.specs.Shared.{IsOfGuest}
 use Rattle.nb_lasting.specs.Lasting.{IsRefusedFor}
 use Rattle.nb_lasting.specs.declared.faults.WriteFault.{WriteFault}

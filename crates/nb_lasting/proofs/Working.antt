@@ -8,26 +8,32 @@ use Rattle.nb_core.specs.declared.calls.Reply.{Reply}
 use Rattle.nb_map.specs.Logs.{made_in}
 use Rattle.nb_map.specs.Fullness.{HasSampled}
 use Rattle.nb_map.specs.Handles.{HandleOf}
+use Rattle.nb_map.specs.declared.faults.PutFault.TheVariants as put_fault
 use Rattle.nb_map.specs.declared.faults.PutFault.{PutFault}
 use Rattle.nb_map.specs.declared.occupancy.Occupancy.{Occupancy}
-use Rattle.nb_lasting.proofs.Grown.{grown-then, visited-grown}
 use Rattle.nb_lasting.proofs.Visiting.{then-first}
-use Rattle.nb_lasting.specs.Guests.{GuestHasCalled, GuestHasWorked, GuestOf, HasLookedBy, HasLookedInTime, HasTriedBy, IsOfOneVisit, IsUndone, calls_left, left_after, left_with}
-use Rattle.nb_lasting.specs.Visits.{HasGrown, HasVisited}
+use Rattle.nb_lasting.specs.Guests.{GuestHasCalled, GuestHasWorked, GuestOf, HasLookedBy, HasLookedInTime, IsOfOneVisit, calls_left, left_after, left_with}
+use Rattle.nb_lasting.specs.Holding.{HasTriedOnAs}
+use Rattle.nb_lasting.specs.Tries.{Again, Done, HasTriedOn, HasTriedAlone, IsUndone}
+use Rattle.nb_lasting.specs.Visits.{AreBack, HasGoneRound, HasVisited, SharedOf}
 use Rattle.nb_lasting.specs.declared.faults.WriteFault.{WriteFault}
 use Rattle.nb_lasting.specs.declared.shared.Account.{Account}
-use Rattle.nb_lasting.specs.inside.Guests.{GuestHasBegun, HasTriedFirst, HasWrittenHere, with_calls_left}
+use Rattle.nb_lasting.specs.inside.Guests.{GuestHasBegun, GuestHasTried, HasTriedFirst, HasWrittenHere, with_calls_left}
 
--- by one visit
+-- ---- tries, one after another
+
+-- by one try
 pub once-by :
     (call : Call) (before after : GuestOf) (outcome : Result Reply PutFault)
-    → HasTriedBy call before after.account outcome → HasWrittenHere call before after outcome
-    → IsOfOneVisit call before after
-once-by call before after outcome visit wrote = record {
+    → (IsUndone outcome → ⊥) → HasTriedAlone call before.number before.account after.account outcome
+    → HasWrittenHere call before after outcome → IsOfOneVisit call before after
+once-by call before after outcome done try wrote = record {
   outcome = outcome;
   then = after.account;
-  first = visit;
-  only = inl (refl, called outcome wrote);
+  made = made_in call outcome;
+  first = try;
+  on = Done done;
+  called = called outcome wrote;
 }
   where
     called : (outcome : Result Reply PutFault) → HasWrittenHere call before after outcome
@@ -35,77 +41,74 @@ once-by call before after outcome visit wrote = record {
     called (Ok reply) wrote = wrote
     called (Err fault) wrote = wrote.0
 
--- by more than one
-pub begun-by :
-    (call : Call) (before middle after : GuestOf) (outcome : Result Reply PutFault)
-    → HasTriedBy call before middle.account outcome → IsUndone outcome
-    → HasGrown middle.account after.account → GuestHasBegun call before after
-begun-by call before middle after outcome visit undone grown = record {
-  outcome = outcome;
-  then = middle.account;
-  first = visit;
-  undone = undone;
-  grown = grown;
+-- others came first
+pub again-by :
+    (call : Call) (before after : GuestOf)
+    → HasTriedAlone call before.number before.account after.account (Err put_fault.Contended)
+    → GuestHasBegun call before after
+again-by call before after try = record {
+  outcome = Err put_fault.Contended;
+  then = after.account;
+  first = try;
+  on = λ outcome then last made next on. Again next on;
 }
 
-once-begun : (call : Call) (before after : GuestOf) → GuestHasBegun call before after
-    → IsOfOneVisit call before after
-once-begun call before after begun = record {
-  outcome = begun.outcome;
-  then = begun.then;
-  first = begun.first;
-  only = inr (begun.undone, begun.grown);
-}
-
-pub begun-tried :
-    (call : Call) (before after : GuestOf) (result : Result (Option Reply) WriteFault)
-    → GuestHasBegun call before after → HasTriedFirst call before after result
-begun-tried call before after (Ok None) begun = begun
-begun-tried call before after (Ok (Some reply)) begun = once-begun call before after begun
-begun-tried call before after (Err fault) begun = once-begun call before after begun
+-- it found the map full, and went on with all handles
+pub full-by :
+    (call : Call) (before middle after : GuestOf) (result : Result (Option Reply) WriteFault)
+    → HasTriedAlone call before.number before.account middle.account (Err put_fault.Full)
+    → GuestHasCalled before middle [] → GuestHasTried call middle after result
+    → HasTriedOnAs call middle.number middle.of middle.account after.account result
+    → HasTriedFirst call before after result
+full-by call before middle after result try none tried on =
+    by result tried
+    (subst (λ n. HasTriedOnAs call n before.of middle.account after.account result) none.number
+    (subst (λ (of : SharedOf).
+    HasTriedOnAs call middle.number of middle.account after.account result) none.of on))
+  where
+    by :
+        (result : Result (Option Reply) WriteFault) → GuestHasTried call middle after result
+        → HasTriedOnAs call before.number before.of middle.account after.account result
+        → HasTriedFirst call before after result
+    by (Ok None) tried on =
+        record { outcome = Err put_fault.Full; then = middle.account; first = try; on = on }
+    by (Ok (Some reply)) tried on = record {
+      outcome = Err put_fault.Full;
+      then = middle.account;
+      made = (call, reply) ∷ [];
+      first = try;
+      on = on;
+      called = then-first before middle after ((call, reply) ∷ []) none tried;
+    }
+    by (Err fault) tried on = record {
+      outcome = Err put_fault.Full;
+      then = middle.account;
+      made = [];
+      first = try;
+      on = on;
+      called = then-first before middle after [] none tried.unmade;
+    }
 
 -- it goes on
 pub then-once :
     (call : Call) (before middle after : GuestOf) → GuestHasBegun call before middle
-    → HasGrown middle.account after.account → IsOfOneVisit call before after
-then-once call before middle after begun grown = record {
+    → GuestHasCalled before middle [] → IsOfOneVisit call middle after
+    → IsOfOneVisit call before after
+then-once call before middle after begun none once = record {
   outcome = begun.outcome;
   then = begun.then;
+  made = once.made;
   first = begun.first;
-  only = inr (
-    begun.undone,
-    grown-then begun.then middle.account after.account begun.grown grown,
-  );
+  on = begun.on once.outcome once.then after.account once.made
+      (subst (λ n. HasTriedAlone call n middle.account once.then once.outcome) none.number
+      once.first)
+      (subst (λ n. HasTriedOn call n before.of once.outcome once.then after.account once.made)
+      none.number
+      (subst (λ (of : SharedOf).
+      HasTriedOn call middle.number of once.outcome once.then after.account once.made)
+      none.of once.on));
+  called = then-first before middle after once.made none once.called;
 }
-
--- whatever it came to, the account has grown
-pub tried-grown :
-    (call : Call) (before after : GuestOf) (result : Result (Option Reply) WriteFault)
-    → HasTriedFirst call before after result → HasGrown before.account after.account
-tried-grown call before after result tried = by result tried
-  where
-    first : (outcome : Result Reply PutFault) (then : Account)
-        → HasTriedBy call before then outcome → HasGrown before.account then
-    first outcome then visit = visited-grown before.number _ before.account then visit
-
-    once : IsOfOneVisit call before after → HasGrown before.account after.account
-    once taken =
-        elim taken.only [
-          | inl one ↦
-              subst (HasGrown before.account) (sym one.0)
-              (first taken.outcome taken.then taken.first)
-          | inr more ↦
-              grown-then before.account taken.then after.account
-              (first taken.outcome taken.then taken.first) more.1
-        ]
-
-    by : (result : Result (Option Reply) WriteFault) → HasTriedFirst call before after result
-        → HasGrown before.account after.account
-    by (Ok None) begun =
-        grown-then before.account begun.then after.account
-        (first begun.outcome begun.then begun.first) begun.grown
-    by (Ok (Some reply)) taken = once taken
-    by (Err fault) taken = once taken
 
 -- ---- a look that is due
 
@@ -133,13 +136,17 @@ looked-only before set then found number account look = record {
 pub looked-more :
     (before set then after : GuestOf) (found : Occupancy) → set.number ≡ before.number
     → set.account ≡ before.account → HasLookedBy set then.account found
-    → IsTrue found.is_last × (2 * found.looked < 3 * found.taken)
-    → HasGrown then.account after.account → HasLookedInTime before after
-looked-more before set then after found number account look crowded grown = record {
+    → IsTrue found.is_last × (2 * found.looked < 3 * found.taken) → then.of ≡ before.of
+    → HasGoneRound then.of AreBack then.account after.account → HasLookedInTime before after
+looked-more before set then after found number account look crowded of round = record {
   found = found;
   then = then.account;
   look = looked-by before set then.account found number account look;
-  only = inr (crowded.0, crowded.1, grown);
+  only = inr (
+    crowded.0,
+    crowded.1,
+    subst (λ (of : SharedOf). HasGoneRound of AreBack then.account after.account) of round,
+  );
 }
 
 -- ---- a write, after the look that was due
@@ -164,13 +171,6 @@ counted-by before after made called is other also =
     ∙ ap (λ (l : List (Call × Reply)). left_after l (calls_left before.left))
     (only-called before after made other called also)
 
-one-nearer : (reply : Reply) (n : ℕ) → n ≤ left_with reply n + 1
-one-nearer reply n = by reply.before
-  where
-    by : (found : Option ℕ) → n ≤ cond (is_some found) n (n - 1) + 1
-    by None = omega arith
-    by (Some number) = omega arith
-
 pub counted-replied :
     (first middle last : GuestOf) (left : ℕ) (made : List (Call × Reply))
     → last ≡ with_calls_left left middle → GuestHasCalled first middle made
@@ -190,7 +190,6 @@ worked-once call first middle last unmade same due left once kept none = record 
   none = same;
   due = due;
   once = once;
-  left = omega (arith, left, kept);
   counted = counted-by first last [] (then-first first middle last [] unmade none) (kept ∙ left);
 }
 
@@ -210,17 +209,14 @@ worked-counted call first middle last counted reply unmade same due left once ke
       once = record {
         outcome = once.outcome;
         then = once.then;
+        made = once.made;
         first = once.first;
-        only = elim once.only [
-          | inl one ↦ inl (
-            account ∙ one.0,
-            counted-replied middle last counted (left_with reply last.left)
-                (made_in call once.outcome) count one.1,
-          )
-          | inr more ↦ inr (more.0, subst (HasGrown once.then) (sym account) more.1)
-        ];
+        on = subst (λ (a : Account).
+            HasTriedOn call middle.number middle.of once.outcome once.then a once.made)
+            (sym account) once.on;
+        called = counted-replied middle last counted (left_with reply last.left) once.made count
+            once.called;
       };
-      left = omega (arith, left, kept, is, one-nearer reply last.left);
       counted = counted-by first counted made
           (counted-replied first last counted (left_with reply last.left) made count
           (then-first first middle last made unmade called))

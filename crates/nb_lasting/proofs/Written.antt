@@ -1,6 +1,6 @@
 -- A guest writes by its own handle while it has all of them.
 use Rattle.std.proofs.Common.{◌≡◌, ◌≢◌, ◌∙◌, ◌<◌, ◌≤◌, ◌⊎◌, ℕ, zero, suc, List, [], ◌∷◌, Some, ap, inl, inr, length, refl, slice_get, slice_set, subst, sym, arith}
-use Rattle.std.specs.Prelude.{Err, Ok, Option, Result, unwrap_or}
+use Rattle.std.specs.Prelude.{◌-◌, ◌^◌, Err, Ok, Option, Result, unwrap_or}
 use Rattle.std.specs.Result.{IsErrAnd}
 use Rattle.std.proofs.lemmas.List.{append-nil, length-set}
 use Rattle.std.proofs.lemmas.Option.{slice_get_within}
@@ -15,7 +15,7 @@ use Rattle.nb_core.specs.declared.events.Event.{Event}
 use Rattle.nb_map.specs.Handles.{HandleOf}
 use Rattle.nb_map.specs.Logs.{HasLogged, log, made_in}
 use Rattle.nb_map.specs.Maps.{MapOf, SeatOf}
-use Rattle.nb_map.specs.Progress.{Limit}
+use Rattle.nb_map.specs.Progress.{Limit, Tries}
 use Rattle.nb_map.specs.Promises.{HasWritten, Refused, replied_or_refused}
 use Rattle.nb_map.specs.declared.faults.PutFault.TheVariants as put_fault
 use Rattle.nb_map.specs.declared.faults.PutFault.{PutFault}
@@ -37,7 +37,7 @@ use Rattle.nb_lasting.specs.declared.shared.LaneView.{LaneView}
 
 -- ---- lists
 
-same-in : {X : Type 0} (x y : X) → ◌≡◌ {A = Option X} (Some x) (Some y) → x ≡ y
+pub same-in : {X : Type 0} (x y : X) → ◌≡◌ {A = Option X} (Some x) (Some y) → x ≡ y
 same-in x y is = ap (λ o. unwrap_or o x) is
 
 pub set-cases :
@@ -55,7 +55,7 @@ set-cases (z ∷ xs) (suc n) y (suc i) x at = later (set-cases xs n y i x at)
     later (inl (is, same)) = inl (ap suc is, same)
     later (inr (other, old)) = inr ((λ is. other (omega (arith, is))), old)
 
-set-at : {X : Type 0} (xs : List X) (n : ℕ) (y x : X) → slice_get xs n ≡ Some x
+pub set-at : {X : Type 0} (xs : List X) (n : ℕ) (y x : X) → slice_get xs n ≡ Some x
     → slice_get (slice_set xs n y) n ≡ Some y
 set-at [] n y x at = absurd (omega (arith, slice_get_within [] n x at))
 set-at (z ∷ xs) zero y x at = refl
@@ -88,7 +88,7 @@ module _
       × ((lane : ℕ) (old new : LaneView) → HasCalledIn lane old new (made_in call result)
       → map_of_log (log_of new.seen) ≡ map_of_log (log wrote.new.seat)
       → HasWrittenIn lane old new call result)
-  logged = write-logged wrote.old.map call wrote.old.seat wrote.new.seat wrote.limit result
+  logged = write-logged wrote.old.map call wrote.old.seat wrote.new.seat (Tries (2 ^ 32 - 1)) result
       wrote.wrote
 
   old-lane : IsLane me.0.map own wrote.old × KnowsIn me.0.filled me.0.past wrote.old.seat
@@ -261,8 +261,8 @@ module _
   pub full-crowded :
       result ≡ Err put_fault.Full → Fills call × IsCrowdedAt own after (key_of_call call)
   full-crowded full =
-      let just = just-full wrote.old.map call wrote.old.seat wrote.new.seat wrote.limit
-      (subst (λ r. HasWritten wrote.old.map call wrote.old.seat wrote.new.seat wrote.limit
+      let just = just-full wrote.old.map call wrote.old.seat wrote.new.seat (Tries (2 ^ 32 - 1))
+      (subst (λ r. HasWritten wrote.old.map call wrote.old.seat wrote.new.seat (Tries (2 ^ 32 - 1))
       (replied_or_refused r)) full wrote.wrote) in (
         just.0,
         (

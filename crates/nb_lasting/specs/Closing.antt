@@ -9,6 +9,7 @@ use Rattle.nb_lasting.specs.Guests.{GoesOnTo, GuestOf, new_guest_of}
 use Rattle.nb_core.specs.Log.{log_of}
 use Rattle.nb_lasting.specs.Renewal.{HoldsBelow}
 use Rattle.nb_lasting.specs.Shared.{IsCurrent}
+use Rattle.nb_lasting.specs.Visits.{SharedOf}
 use Rattle.nb_lasting.specs.declared.shared.LaneView.{LaneView}
 
 -- One more lane's handle is gathered, which knows all that the lane's guest had seen. What the
@@ -30,17 +31,17 @@ pub record HaveGathered (n : ℕ) (guests : List GuestOf) (me : Me (Option Handl
 
 -- these are so many guests of one map, in their order
 pub record AreAllOf (id : TableId) (n : ℕ) (guests : List GuestOf) : Type 0 where
-  pub of : All (λ guest. guest.of ≡ id) guests
+  pub of : All (λ guest. guest.of.id ≡ id) guests
   pub count : length guests ≡ n
   pub numbered :
       (i : ℕ) (guest : GuestOf) → slice_get guests i ≡ Some guest → guest.number ≡ i
 
 -- these are so many new guests of one map, numbered by their places
-pub record AreNew (n : ℕ) (id : TableId) (guests : List GuestOf) : Type 0 where
+pub record AreNew (n : ℕ) (of : SharedOf) (guests : List GuestOf) : Type 0 where
   pub count : length guests ≡ n
   pub each :
       (i : ℕ) (guest : GuestOf) → slice_get guests i ≡ Some guest
-      → guest ≡ new_guest_of id i
+      → guest ≡ new_guest_of of i
 
 -- Some of all guests are done, whose handles are gathered; these are left.
 pub record HaveComeTo (all left : List GuestOf) (me : Me (Option HandleOf) LaneView)

@@ -6,14 +6,13 @@ use Rattle.nb_core.specs.declared.calls.Call.{Call}
 use Rattle.nb_core.specs.declared.calls.Reply.{Reply}
 use Rattle.nb_map.specs.Handles.{HandleOf, IsSameMap, KeepsRest, handle_on, seats_of}
 use Rattle.nb_map.specs.Maps.{MapOf, SeatOf}
-use Rattle.nb_map.specs.Progress.{Limit}
-use Rattle.nb_map.specs.Promises.{HasWritten, replied_or_refused}
 use Rattle.nb_map.specs.Renewing.{HasRenewed, HasTooMany, IsKept}
 use Rattle.nb_map.specs.Settling.{HaveSettled}
 use Rattle.nb_map.specs.declared.faults.PutFault.{PutFault}
 use Rattle.nb_map.specs.declared.faults.RenewFault.TheVariants as renew_fault
 use Rattle.nb_map.specs.declared.faults.RenewFault.{RenewFault}
 use Rattle.nb_map.specs.declared.faults.SettleFault.{SettleFault}
+use Rattle.nb_lasting.specs.Tries.{IsTry}
 
 -- each handle's own seat
 abbrev pub seats_of_each : List HandleOf → List SeatOf
@@ -75,8 +74,7 @@ pub record HasWrittenBy (lane : ℕ) (call : Call) (before after : List HandleOf
     (result : Result Reply PutFault) : Type 0 where
   pub old : HandleOf
   pub new : HandleOf
-  pub limit : Limit
   pub was : slice_get before lane ≡ Some old
   pub is : after ≡ slice_set before lane new
   pub rest : KeepsRest old new
-  pub wrote : HasWritten old.map call old.seat new.seat limit (replied_or_refused result)
+  pub wrote : IsTry call result old new

@@ -1,47 +1,40 @@
 -- A map without an end that guests share, each in a thread of its own: what their calls promise,
 -- and what holds at its end. It is told in words of calls, and of the handles that they take.
 use Rattle.std.specs.FinMap as numbers
-use Rattle.std.specs.Prelude.{◌≡◌, ◌≢◌, ◌<◌, ◌≤◌, ◌+◌, ◌*◌, ◌-◌, ◌^◌, ◌∷◌, ◌++◌, ◌⊎◌, ℕ, zero, suc, Bool, IsTrue, Err, Ok, Result, List, [], All, Option, Some, cond, is_some, length, map, slice_get}
-use Rattle.atomic_table.specs.Seated.{TableId}
+use Rattle.std.specs.Prelude.{◌≡◌, ◌≢◌, ◌<◌, ◌≤◌, ◌+◌, ◌*◌, ◌-◌, ◌∷◌, ◌++◌, ◌⊎◌, ℕ, zero, suc, Bool, IsTrue, Result, List, [], All, Option, Some, cond, is_some, length, map, slice_get}
 use Rattle.nb_core.specs.Log.{Entry, IsReplayed, Numbers, calls_of, map_of_log}
 use Rattle.nb_core.specs.declared.calls.Call.{Call}
 use Rattle.nb_core.specs.declared.calls.Reply.{Reply}
 use Rattle.nb_map.specs.Ending.{EndedOf, map_left}
 use Rattle.nb_map.specs.Fullness.{HasSampled}
-use Rattle.nb_map.specs.Logs.{made_in}
-use Rattle.nb_map.specs.Progress.{Tries}
-use Rattle.nb_map.specs.Promises.{HasGot, HasWritten, replied_or_refused}
-use Rattle.nb_map.specs.declared.faults.PutFault.TheVariants as put_fault
+use Rattle.nb_map.specs.Promises.{HasGot}
 use Rattle.nb_map.specs.declared.faults.PutFault.{PutFault}
 use Rattle.nb_map.specs.declared.occupancy.Occupancy.{Occupancy}
 use Rattle.nb_lasting.specs.Epochs.{HasGoneOnBy}
 use Rattle.nb_lasting.specs.Lasting.{IsRefusedFor}
 use Rattle.nb_lasting.specs.Shared.{IsOfGuest}
-use Rattle.nb_lasting.specs.Visits.{HasGrown, HasVisited, no_account}
+use Rattle.nb_lasting.specs.Tries.{HasTriedOn, HasTriedAlone}
+use Rattle.nb_lasting.specs.Visits.{AreBack, HasGoneRound, HasVisited, SharedOf, no_account}
 use Rattle.nb_lasting.specs.declared.faults.WriteFault.{WriteFault}
 use Rattle.nb_lasting.specs.declared.guest.TheConstants.{LOOK_AFTER}
 use Rattle.nb_lasting.specs.declared.shared.Account.{Account}
 
 -- A guest: the map that it is of, its number there, and the log that it knows: the calls of all
 -- guests until its last call. It keeps account of each handle that it took, as that was then, and
--- of its own one each time that it gave it back, the newest first. So many more of its writes that
--- find no number come before the next one that looks whether the map is crowded.
+-- of its own one each time that it gave it back, the newest first; and so of the first one that it
+-- gave back each time that it made the map anew. So many more of its writes that find no number
+-- come before the next one that looks whether the map is crowded.
 pub record GuestOf : Type 0 where
-  pub of : TableId
+  pub of : SharedOf
   pub number : ℕ
   pub log : List Entry
   pub account : Account
   pub left : ℕ
 
 -- one that has called nothing yet
-abbrev pub new_guest_of : TableId → (number : ℕ) → GuestOf
-new_guest_of id number =
-    record { of = id; number = number; log = []; account = no_account; left = LOOK_AFTER }
-
--- a map that guests share: which one it is, and how many guests it has
-pub record SharedOf : Type 0 where
-  pub id : TableId
-  pub guests : ℕ
+abbrev pub new_guest_of : SharedOf → (number : ℕ) → GuestOf
+new_guest_of shared number =
+    record { of = shared; number = number; log = []; account = no_account; left = LOOK_AFTER }
 
 -- ---- a guest's calls
 
@@ -78,30 +71,16 @@ pub record GuestHasRead (key : ℕ) (before after : GuestOf) (found : Option ℕ
       before.account after.account
   pub left : after.left ≡ before.left
 
--- It took its own handle once, for one write by it with 2^32 - 1 tries, of which this came.
-abbrev pub HasTriedBy :
-    Call → (before : GuestOf) → (after : Account) → Result Reply PutFault → Type 0
-HasTriedBy call before after outcome =
-    HasVisited before.number
-    (λ there back. HasWritten there.map call there.seat back.seat (Tries (2 ^ 32 - 1))
-    (replied_or_refused outcome)) before.account after
-
--- that was for nothing: it found the map full, or others came first each time
-abbrev pub IsUndone : Result Reply PutFault → Type 0
-IsUndone (Ok reply) = ⊥
-IsUndone (Err put_fault.ValueRange) = ⊥
-IsUndone (Err put_fault.Full) = Unit {0}
-IsUndone (Err put_fault.Contended) = Unit {0}
-
--- So it did at first. It did no more, and has made the call just where that was made; unless that
--- was for nothing.
+-- It took its own handle once, for one write by it with 2^32 - 1 tries. It did no more, and has made
+-- the call just where that was made; unless that was for nothing. Then it went on, until it made
+-- the call by such a try, or was refused it.
 pub record IsOfOneVisit (call : Call) (before after : GuestOf) : Type 0 where
   pub outcome : Result Reply PutFault
   pub then : Account
-  pub first : HasTriedBy call before then outcome
-  pub only :
-      ((after.account ≡ then) × GuestHasCalled before after (made_in call outcome))
-      ⊎ (IsUndone outcome × HasGrown then after.account)
+  pub made : List (Call × Reply)
+  pub first : HasTriedAlone call before.number before.account then outcome
+  pub on : HasTriedOn call before.number before.of outcome then after.account made
+  pub called : GuestHasCalled before after made
 
 -- It took its own handle once, for one look by it at how full the map is, which found this.
 abbrev pub HasLookedBy : (before : GuestOf) → (after : Account) → Occupancy → Type 0
@@ -110,14 +89,14 @@ HasLookedBy before after found =
     before.account after
 
 -- So it did, and no more, unless more than two thirds of the last table were found taken: then it
--- may have made the map anew.
+-- took all handles once, and may have made the map anew.
 pub record HasLookedInTime (before after : GuestOf) : Type 0 where
   pub found : Occupancy
   pub then : Account
   pub look : HasLookedBy before then found
   pub only :
       (after.account ≡ then)
-      ⊎ (IsTrue found.is_last × (2 * found.looked < 3 * found.taken) × HasGrown then after.account)
+      ⊎ (IsTrue found.is_last × (2 * found.looked < 3 * found.taken) × HasGoneRound before.of AreBack then after.account)
 
 -- how many such writes come before the next look, where one that is due is made first
 abbrev pub calls_left : ℕ → ℕ
@@ -140,7 +119,6 @@ pub record GuestHasWorked (call : Call) (before after : GuestOf) : Type 0 where
   pub none : before.left ≢ 0 → looked ≡ before
   pub due : before.left ≡ 0 → HasLookedInTime before looked
   pub once : IsOfOneVisit call looked after
-  pub left : calls_left before.left ≤ after.left + 1
   pub counted :
       (made : List (Call × Reply)) → GuestHasCalled before after made
       → after.left ≡ left_after made (calls_left before.left)
@@ -157,10 +135,10 @@ pub record GuestIsRefused (call : Call) (before after : GuestOf) (fault : WriteF
 pub record HaveCome (n : ℕ) (shared : SharedOf) (guests : List GuestOf) : Type 0 where
   pub many : shared.guests ≡ n
   pub count : length guests ≡ n
-  pub of : All (λ guest. guest.of ≡ shared.id) guests
+  pub of : All (λ guest. guest.of ≡ shared) guests
   pub each :
       (i : ℕ) (guest : GuestOf) → slice_get guests i ≡ Some guest
-      → guest ≡ new_guest_of shared.id i
+      → guest ≡ new_guest_of shared i
 
 -- they are all guests of the map, in their order
 pub record AreAllGuests (shared : SharedOf) (guests : List GuestOf) : Type 0 where

@@ -13,8 +13,11 @@ use Rattle.nb_map.specs.declared.faults.PutFault.{PutFault}
 use Rattle.nb_lasting.specs.Epochs.{HasGoneOnBy}
 use Rattle.nb_lasting.specs.Lasting.{IsNewKey, IsRefusedFor}
 use Rattle.nb_lasting.specs.Shared.{EpochIn, Holds, HoldsAnew, IsCurrent}
+use Rattle.nb_lasting.specs.Tries.{HasTriedOn, HasTriedAlone}
+use Rattle.nb_lasting.specs.Visits.{SharedOf}
 use Rattle.nb_lasting.specs.declared.faults.WriteFault.TheVariants as fault
 use Rattle.nb_lasting.specs.declared.faults.WriteFault.{WriteFault}
+use Rattle.nb_lasting.specs.declared.shared.Account.{Account}
 use Rattle.nb_lasting.specs.declared.shared.LaneView.{LaneView}
 
 -- a guest that has the handle of its own lane, whatever it has called
@@ -84,3 +87,23 @@ tried_of (Ok reply) = Ok (Some reply)
 tried_of (Err put_fault.Full) = Ok None
 tried_of (Err put_fault.Contended) = Ok None
 tried_of (Err put_fault.ValueRange) = Err fault.ValueRange
+
+-- ---- how a write goes on
+
+-- whatever it does from then on, after one more try
+abbrev pub CanGoOn :
+    Call → (lane : ℕ) → (of : SharedOf) → (was : Result Reply PutFault) → (before after : Account) → Type 0
+CanGoOn call lane of was before after =
+    (outcome : Result Reply PutFault) (then last : Account) (made : List (Call × Reply))
+    → HasTriedAlone call lane after then outcome → HasTriedOn call lane of outcome then last made
+    → HasTriedOn call lane of was before last made
+
+-- what a write with all handles has done, where the map was full: it is made or refused, or goes on
+abbrev pub HasTriedOnAs :
+    Call → (lane : ℕ) → (of : SharedOf) → (before after : Account) → Result (Option Reply) WriteFault → Type 0
+HasTriedOnAs call lane of before after (Ok None) =
+    CanGoOn call lane of (Err put_fault.Full) before after
+HasTriedOnAs call lane of before after (Ok (Some reply)) =
+    HasTriedOn call lane of (Err put_fault.Full) before after ((call, reply) ∷ [])
+HasTriedOnAs call lane of before after (Err fault) =
+    HasTriedOn call lane of (Err put_fault.Full) before after []

@@ -1,10 +1,11 @@
 -- What the calls of a map without an end do. A contract sees the map as a finite map: its keys with
 -- their numbers.
 use Rattle.std.specs.FinMap as numbers
-use Rattle.std.specs.Prelude.{◌≡◌, ◌≤◌, ◌^◌, true, ℕ, Bool, Option, None, length}
+use Rattle.std.specs.Prelude.{◌≡◌, ◌<◌, ◌≤◌, ◌-◌, ◌^◌, ◌⊎◌, true, ℕ, Bool, Option, None, length}
 use Rattle.nb_core.specs.Calls.{Fills, overflows}
 use Rattle.nb_core.specs.History.{key_of_call}
 use Rattle.nb_core.specs.Log.{Numbers, map_after, reply_of}
+use Rattle.nb_core.specs.Plans.{Plan, generations_of, size_of}
 use Rattle.nb_core.specs.declared.calls.Call.{Call}
 use Rattle.nb_core.specs.declared.calls.Reply.{Reply}
 use Rattle.nb_core.specs.declared.shapes.TheConstants.{MAX_EXPONENT}
@@ -46,6 +47,18 @@ abbrev pub IsRefusedFor : Call → Numbers → WriteFault → Type 0
 IsRefusedFor call content fault.Full = IsNewKey call content × IsGreatest content
 IsRefusedFor call content fault.OutOfMemory = IsNewKey call content
 IsRefusedFor call content fault.ValueRange = overflows call content ≡ true
+
+-- ---- room
+
+-- how many slots the last table has
+abbrev pub last_size : Plan → ℕ
+last_size p = size_of p (generations_of p - 1)
+
+-- the last table has more slots than this, or is the greatest one
+abbrev pub HasSlots : ℕ → Plan → Type 0
+HasSlots keys p = (keys < last_size p) ⊎ (2 ^ MAX_EXPONENT ≤ last_size p)
+
+-- ---- refusals of two kinds
 
 -- the refusal of room, as one of a write
 abbrev pub as_write_fault : GrowFault → WriteFault

@@ -2,6 +2,7 @@ pub mod Lasting
 pub mod Laws
 pub mod Epochs
 pub mod Visits
+pub mod Tries
 pub mod Shared
 pub mod Guests
 pub mod Closing

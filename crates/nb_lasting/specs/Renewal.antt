@@ -1,6 +1,6 @@
 -- What a renewer holds: the handles of the lanes below a number, and of all lanes at last.
 use Rattle.std.specs.FinMap as numbers
-use Rattle.std.specs.Prelude.{◌≡◌, ◌≢◌, ◌*◌, ◌<◌, ◌≤◌, ℕ, zero, suc, All, List, [], ◌∷◌, Option, Some, None, IfOk, Result, ⊤, length, max, slice_get}
+use Rattle.std.specs.Prelude.{◌≡◌, ◌≢◌, ◌*◌, ◌<◌, ◌≤◌, ◌++◌, ℕ, zero, suc, All, List, [], ◌∷◌, Option, Some, None, IfOk, Result, ⊤, length, max, slice_get}
 use Rattle.atomic_table.specs.Table.{Me}
 use Rattle.nb_core.specs.Log.{Entry, Numbers, log_of, map_of_log}
 use Rattle.nb_core.specs.Meaning.{IsCrowded}
@@ -11,9 +11,10 @@ use Rattle.nb_map.specs.Logs.{log}
 use Rattle.nb_map.specs.Maps.{MapOf}
 use Rattle.nb_map.specs.declared.faults.RenewFault.{RenewFault}
 use Rattle.nb_lasting.specs.Epochs.{HasGoneOnBy}
-use Rattle.nb_lasting.specs.Lasting.{IsGreatest}
+use Rattle.nb_lasting.specs.Lasting.{HasSlots, IsGreatest}
 use Rattle.nb_lasting.specs.Shared.{EpochIn, IsCurrent, IsLane, IsOfGuest, KnowsIn}
-use Rattle.nb_lasting.specs.inside.Present.{HasSlots}
+use Rattle.nb_lasting.specs.Visits.{began, gave, took}
+use Rattle.nb_lasting.specs.declared.shared.Account.{Account}
 use Rattle.nb_lasting.specs.declared.shared.Out.{Out}
 use Rattle.nb_lasting.specs.declared.shared.LaneView.{LaneView}
 
@@ -155,3 +156,38 @@ pub record HasRoomAnew (least own : ℕ) (before after : LaneView) : Type 0 wher
   pub room :
       HasSlots (max (2 * length (numbers.entries (map_of_log (log_of whole)))) least)
       after.map.chain.shape
+
+-- ---- what comes into the account
+
+-- one more handle was taken
+pub record HasTakenOne (before after : Account) (handles more : List HandleOf) : Type 0 where
+  pub handle : HandleOf
+  pub account : after ≡ took handle before
+  pub all : more ≡ handles ++ (handle ∷ [])
+
+-- the last handle went home, of this lane, and by its guest, where that is the token's own
+pub record HasComeHome (lane own : ℕ) (before after : Account) (handles fewer : List HandleOf) :
+    Type 0 where
+  pub last : HandleOf
+  pub all : handles ≡ fewer ++ (last ∷ [])
+  pub given : lane ≡ own → after ≡ gave last before
+  pub dealt : lane ≢ own → after ≡ before
+
+-- all handles went home, of which this lane's did so by its guest
+abbrev pub AreAllHome : (own : ℕ) → List HandleOf → (before after : Account) → Type 0
+AreAllHome own handles before after =
+    (back : HandleOf) × (slice_get handles own ≡ Some back) × (after ≡ gave back before)
+
+-- one of these handles went home first, of a map that was made anew, or was not
+pub record HasBegunBy (handles : List HandleOf) (before after : Account) : Type 0 where
+  pub first : HandleOf
+  pub place : ℕ
+  pub there : slice_get handles place ≡ Some first
+  pub account : after ≡ began first before
+
+-- The first one that went home is of a new map of this shape, which has what these handles know.
+pub record HasBegunAs (p : Plan) (handles : List HandleOf) (before after : Account) : Type 0 where
+  pub first : HandleOf
+  pub account : after ≡ began first before
+  pub shape : first.map.chain.shape ≡ p
+  pub same : (one : KnowOneLog handles) → map_of_log (log first.seat) ≡ map_of_log one.whole

@@ -15,7 +15,7 @@ use Rattle.nb_map.specs.Handles.{HandleOf}
 use Rattle.nb_map.specs.Logs.{log}
 use Rattle.nb_map.specs.Maps.{MapOf, SeatOf}
 use Rattle.nb_lasting.specs.Epochs.{HasGoneOnBy}
-use Rattle.nb_lasting.specs.Visits.{gave, no_account, took}
+use Rattle.nb_lasting.specs.Visits.{began, gave, no_account, took}
 use Rattle.nb_lasting.specs.declared.shared.Account.{Account}
 use Rattle.nb_lasting.specs.declared.shared.Out.{Out}
 use Rattle.nb_lasting.specs.declared.shared.LaneView.{LaneView}
@@ -204,10 +204,16 @@ abbrev pub all_knew : List Event → List Out → List Out
 all_knew whole [] = []
 all_knew whole (out ∷ outs) = record { lane = out.lane; knew = whole } ∷ all_knew whole outs
 
--- what it knows when it has given back the last lane's handle, of a new map
-abbrev pub given_anew : LaneView → List Out → MapOf → (filled past : List Event) → LaneView
-given_anew v outs m filled past =
-    record v { outs = all_knew past outs; map = m; filled = filled; past = past }
+-- what it knows when it has given back the last lane's handle, of a new map, with this account
+abbrev pub given_anew :
+    LaneView → List Out → MapOf → (filled past : List Event) → Account → LaneView
+given_anew v outs m filled past account = record v {
+  outs = all_knew past outs;
+  map = m;
+  filled = filled;
+  past = past;
+  account = account;
+}
 
 -- The token has all lanes' handles, the last taken of which is given back, of a new map. That one
 -- knows the log of all calls, which goes on from what each lane's handle knew, by no call of it.
@@ -257,6 +263,12 @@ account_in [] account = account
 account_in ((lane, None) ∷ slots) account = account
 account_in ((lane, Some handle) ∷ slots) account = gave handle account
 
+-- the account of a token that gave that handle back first, of a new map
+abbrev pub begun_in : List (ℕ × Option HandleOf) → Account → Account
+begun_in [] account = account
+begun_in ((lane, None) ∷ slots) account = account
+begun_in ((lane, Some handle) ∷ slots) account = began handle account
+
 -- the lanes that are out but for the one taken last
 abbrev pub rest_outs : List Out → List Out
 rest_outs [] = []
@@ -295,7 +307,7 @@ HasBegunAnew before after =
     → HasGoneOnBy out.lane (log_of out.knew) (log_of next.past) [])
     × (after.0
     ≡ given_anew before.0 (rest_outs before.0.outs) (map_in before.0.map before.1) next.filled
-    next.past)
+    next.past (begun_in before.1 before.0.account))
     × (after.1 ≡ rest before.1)
 
 abbrev pub Renews :

@@ -1,13 +1,25 @@
 -- How often a token takes handles, and what is done by them. It keeps account of each that it took,
--- as that was then, and of its guest's own one each time that the guest gave it back.
-use Rattle.std.specs.Prelude.{◌≡◌, ◌∷◌, [], ℕ}
-use Rattle.nb_core.specs.Log.{IsBeginning}
+-- as that was then; of its guest's own one each time that the guest gave it back; and of the first
+-- one that it gave back each time that it made the map anew.
+use Rattle.std.specs.FinMap as numbers
+use Rattle.std.specs.Prelude.{◌≡◌, ◌*◌, ◌∷◌, ◌⊎◌, [], ℕ, List, Some, length, max, slice_get}
+use Rattle.atomic_table.specs.Seated.{TableId}
+use Rattle.nb_core.specs.Log.{map_of_log}
 use Rattle.nb_map.specs.Handles.{HandleOf}
+use Rattle.nb_map.specs.Logs.{log}
+use Rattle.nb_lasting.specs.Lasting.{HasSlots}
 use Rattle.nb_lasting.specs.declared.shared.Account.{Account}
+
+-- A map that guests share: which one it is, how many guests it has, and for how many keys it has
+-- slots at least, whenever it was made anew.
+pub record SharedOf : Type 0 where
+  pub id : TableId
+  pub guests : ℕ
+  pub least : ℕ
 
 -- nothing yet
 abbrev pub no_account : Account
-no_account = record { taken = []; returned = [] }
+no_account = record { taken = []; returned = []; begun = [] }
 
 -- the account after this handle was taken
 abbrev pub took : HandleOf → Account → Account
@@ -17,10 +29,9 @@ took handle account = record account { taken = handle ∷ account.taken }
 abbrev pub gave : HandleOf → Account → Account
 gave handle account = record account { returned = handle ∷ account.returned }
 
--- what was taken and given back is there still, below what has come since
-pub record HasGrown (before after : Account) : Type 0 where
-  pub taken : IsBeginning before.taken after.taken
-  pub returned : IsBeginning before.returned after.returned
+-- the same after it gave this one back first, of a map that it had made anew
+abbrev pub began : HandleOf → Account → Account
+began handle account = record account { begun = handle ∷ account.begun }
 
 -- A guest took the handle of its own lane once, by which this was done, and gave it back. It took
 -- no other.
@@ -31,3 +42,46 @@ pub record HasVisited (lane : ℕ) (did : (there back : HandleOf) → Type 0)
   pub own : there.seat.chain.number ≡ lane
   pub account : after ≡ gave back (took there before)
   pub done : did there back
+
+-- these handles were taken, one after the other
+abbrev pub took_all : List HandleOf → Account → Account
+took_all [] account = account
+took_all (handle ∷ handles) account = took_all handles (took handle account)
+
+-- The token took the handles of all guests: these, in their order.
+pub record HasTakenAll (of : SharedOf) (handles : List HandleOf) (before after : Account) :
+    Type 0 where
+  pub count : length handles ≡ of.guests
+  pub numbered :
+      (i : ℕ) (handle : HandleOf) → slice_get handles i ≡ Some handle
+      → handle.seat.chain.number ≡ i
+  pub account : after ≡ took_all handles before
+
+-- how many keys the map has, as the handle's seat knows it
+abbrev pub keys_known : HandleOf → ℕ
+keys_known handle = length (numbers.entries (map_of_log (log handle.seat)))
+
+-- It made the map anew: what it gave back first is a handle of one with slots for twice the keys,
+-- and for as many as the map is to have slots for at least.
+pub record HasMadeMapAnew (of : SharedOf) (before after : Account) : Type 0 where
+  pub first : HandleOf
+  pub account : after ≡ began first before
+  pub room : HasSlots (max (2 * keys_known first) of.least) first.map.chain.shape
+
+-- All handles that it took are home, its own one by its guest, which may have seen more.
+abbrev pub AreBackSeen : (before after : Account) → Type 0
+AreBackSeen before after = (handle : HandleOf) × (after ≡ gave handle before)
+
+-- The same; or they are as they were; or first came one of a map that was made anew, or was to be.
+abbrev pub AreBack : (before after : Account) → Type 0
+AreBack before after =
+    (after ≡ before) ⊎ AreBackSeen before after
+    ⊎ ((first : HandleOf) × (after ≡ began first before))
+
+-- It took all handles once, and they are home so; or it did nothing.
+abbrev pub HasGoneRound :
+    SharedOf → (Back : (before after : Account) → Type 0) → (before after : Account) → Type 0
+HasGoneRound of Back before after =
+    (after ≡ before)
+    ⊎ ((handles : List HandleOf) × (then : Account) × HasTakenAll of handles before then
+    × Back then after)

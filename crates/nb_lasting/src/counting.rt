@@ -3,6 +3,8 @@ ghost use Rattle.std.specs.FinMap as numbers;
 ghost use Rattle.std.specs.Prelude.{IfOk, [], length, ◌<◌, ◌≡◌};
 ghost use Rattle.nb_core.specs.Log.{IsReplayed, log_of, map_of_log};
 ghost use Rattle.nb_lasting.specs.Holding.{HasCalledIn, IsIdleGuest};
+ghost use Rattle.nb_lasting.specs.Visits.{AreBackSeen, HasGoneRound};
+ghost use Rattle.nb_lasting.specs.inside.Guests.{hall_of};
 
 use crate::gathered::counted;
 use crate::hall::Hall;
@@ -26,6 +28,8 @@ pub(crate) fn count_through<R: Wait>(
     ensures table { token.new.table_id ≡ token.old.table_id }
     ensures idle { IsIdleGuest lane token.new.me }
     ensures called { HasCalledIn lane token.old.me.0 token.new.me.0 [] }
+    ensures round { HasGoneRound (hall_of hall.now) AreBackSeen token.old.me.0.account
+        token.new.me.0.account }
     ensures size { IfOk result (λ size.
         size ≡ length (numbers.entries (map_of_log (log_of token.new.me.0.seen)))) }
 {

@@ -5,10 +5,11 @@ ghost use Rattle.nb_core.specs.Calls.{Fills};
 ghost use Rattle.nb_core.specs.Log.{IsReplayed, log_of, map_of_log, reply_at};
 ghost use Rattle.nb_core.specs.declared.calls.Call.TheVariants as call;
 ghost use Rattle.nb_map.specs.NamedCalls.{add_of, put_if_absent_of, put_of, remove_if_of, remove_of, replace_if_of, replace_of};
-ghost use Rattle.nb_lasting.specs.Guests.{GuestHasCalled, GuestHasFound, GuestHasMatched, GuestHasRead, GuestHasReplied, GuestHasWorked, GuestIsRefused, HasLookedBy, HasLookedInTime, HasTriedBy, IsOfOneVisit, calls_left, left_with};
-ghost use Rattle.nb_lasting.specs.Holding.{IsIdleGuest};
+ghost use Rattle.nb_lasting.specs.Guests.{GuestHasCalled, GuestHasFound, GuestHasMatched, GuestHasRead, GuestHasReplied, GuestHasWorked, GuestIsRefused, HasLookedBy, HasLookedInTime, IsOfOneVisit, calls_left, left_with};
+ghost use Rattle.nb_lasting.specs.Holding.{HasTriedOnAs, IsIdleGuest};
 ghost use Rattle.nb_lasting.specs.Lasting.{IsNewKey, as_write_fault};
-ghost use Rattle.nb_lasting.specs.Visits.{HasGrown};
+ghost use Rattle.nb_lasting.specs.Tries.{HasTriedAlone};
+ghost use Rattle.nb_lasting.specs.Visits.{AreBack, AreBackSeen, HasGoneRound};
 ghost use Rattle.nb_lasting.specs.inside.Guests.{GuestHasTried, HasTriedFirst, HasWrittenHere, NeverOverflows, with_calls_left};
 
 use crate::counting::count_through;
@@ -68,7 +69,7 @@ impl Guest {
 
     /// Its token alone.
     pub(crate) fn into_token(self) -> Token
-        ensures table { result.table_id ≡ self.of }
+        ensures table { result.table_id ≡ self.of.id }
         ensures idle { IsIdleGuest self.number result.me }
         ensures seen { log_of result.me.0.seen ≡ self.log }
     {
@@ -145,7 +146,7 @@ impl Guest {
             (GuestHasReplied (call.Write key want.now change.now) self.old self.new) }
         ensures refused { IfErr result
             (GuestIsRefused (call.Write key want.now change.now) self.old self.new) }
-        ensures grown { HasGrown self.old.account self.new.account }
+        ensures once { IsOfOneVisit (call.Write key want.now change.now) self.old self.new }
         ensures left { self.new.left ≡ self.old.left }
     {
         self.known();
@@ -207,7 +208,8 @@ impl Guest {
         requires new_key { IsNewKey (call.Write key want.now change.now) (map_of_log self.old.log) }
         ensures tried { GuestHasTried (call.Write key want.now change.now) self.old self.new
             result }
-        ensures grown { HasGrown self.old.account self.new.account }
+        ensures on { HasTriedOnAs (call.Write key want.now change.now) self.old.number
+            self.old.of self.old.account self.new.account result }
         ensures left { self.new.left ≡ self.old.left }
     {
         write_or_renew(
@@ -231,8 +233,8 @@ impl Guest {
     ) -> Result<Reply, PutFault>
         ensures wrote { HasWrittenHere (call.Write key want.now change.now) self.old self.new
             result }
-        ensures visited { HasTriedBy (call.Write key want.now change.now) self.old
-            self.new.account result }
+        ensures visited { HasTriedAlone (call.Write key want.now change.now) self.old.number
+            self.old.account self.new.account result }
         ensures left { self.new.left ≡ self.old.left }
     {
         write_through(
@@ -252,6 +254,7 @@ impl Guest {
     pub fn size<R: Wait>(&mut self, rt: &R) -> Result<u64, OutOfMemory>
         ensures of { self.new.of ≡ self.old.of }
         ensures called { GuestHasCalled self.old self.new [] }
+        ensures round { HasGoneRound self.old.of AreBackSeen self.old.account self.new.account }
         ensures size { IfOk result (λ size.
             size ≡ length (numbers.entries (map_of_log self.new.log))) }
         ensures left { self.new.left ≡ self.old.left }
@@ -296,7 +299,7 @@ impl Guest {
     /// there were so many renewals.
     fn renew<R: Wait>(&mut self, rt: &R, renewals: u64) -> Result<(), GrowFault>
         ensures called { GuestHasCalled self.old self.new [] }
-        ensures grown { HasGrown self.old.account self.new.account }
+        ensures round { HasGoneRound self.old.of AreBack self.old.account self.new.account }
         ensures left { self.new.left ≡ self.old.left }
     {
         renew_through(rt, &self.hall, &mut self.token, self.lane, renewals)

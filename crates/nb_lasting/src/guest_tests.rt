@@ -13,7 +13,7 @@ use std::thread::Threads;
 /// A map that is made anew soon, with so many guests.
 fn opened<R: Abort>(rt: &R, alloc: Global, guests: usize) -> (SharedLasting, Vec<Guest>)
     requires guests { (1 ≤ guests) × (guests ≤ 256) }
-    ensures { All (λ guest. guest.of ≡ result.0.id) result.1.items }
+    ensures { All (λ guest. guest.of ≡ result.0) result.1.items }
 {
     match SharedLasting::open(alloc, guests, 0) {
         Ok(opened) => opened,
@@ -23,7 +23,7 @@ fn opened<R: Abort>(rt: &R, alloc: Global, guests: usize) -> (SharedLasting, Vec
 
 /// What is left, with all guests.
 fn ended<R: Abort + Wait>(rt: &R, shared: SharedLasting, guests: Vec<Guest>) -> Ended
-    requires of { All (λ guest. guest.of ≡ shared.id) guests.items }
+    requires of { All (λ guest. guest.of ≡ shared) guests.items }
 {
     let Ok(ended) = shared.close(rt, guests) else {
         panic!(rt; "all guests are here")

@@ -1,12 +1,13 @@
 //! The map that is there at present, and how it is made anew.
 ghost use Rattle.std.specs.FinMap as numbers;
-ghost use Rattle.std.specs.Prelude.{Err, IfErr, IfOk, OnErr, OnOk, ◌≡◌, ◌≤◌};
+ghost use Rattle.std.specs.Prelude.{Err, IfErr, IfOk, OnErr, OnOk, max, ◌≡◌, ◌≤◌};
 ghost use Rattle.nb_core.specs.declared.calls.Call.TheVariants as call;
 ghost use Rattle.nb_map.specs.Ending.{map_left};
 ghost use Rattle.nb_map.specs.Entries.{AreEntriesOf};
-ghost use Rattle.nb_lasting.specs.Lasting.{Finds, IsGreatest, IsMadeOn, IsNewKey, IsRefusedFor};
+ghost use Rattle.nb_lasting.specs.Lasting.{Finds, HasSlots, IsGreatest, IsMadeOn, IsNewKey, IsRefusedFor};
 ghost use Rattle.nb_lasting.specs.declared.faults.GrowFault.TheVariants as fault;
-ghost use Rattle.nb_lasting.specs.inside.Present.{HasSlots, IsAlone, IsFresh, IsRefusedHere, content, keys_in};
+ghost use Rattle.nb_lasting.specs.declared.shapes.TheConstants.{LEAST_ANEW};
+ghost use Rattle.nb_lasting.specs.inside.Present.{IsAlone, IsFresh, IsRefusedHere, content, keys_in};
 
 use crate::faults::{GrowFault, WriteFault};
 use crate::shapes::{LEAST, LEAST_ANEW, shape_for};
@@ -31,6 +32,8 @@ impl Present {
     pub(crate) fn open(alloc: Global, keys: usize) -> Result<Present, OutOfMemory>
         ensures alone { IfOk result (λ present. IsAlone present.handle) }
         ensures empty { IfOk result (λ present. content present.handle ≡ numbers.empty) }
+        ensures room { IfOk result (λ present. HasSlots keys present.handle.map.chain.shape) }
+        ensures least { IfOk result (λ present. present.least ≡ max keys LEAST_ANEW) }
     {
         let handle = Handle::open(alloc, shape_for(keys, 1))?;
         handle.known();

@@ -4,13 +4,15 @@ ghost use Rattle.nb_core.specs.Log.{Entry, IsReplayed, log_of, map_of_log};
 ghost use Rattle.nb_core.specs.declared.calls.Call.TheVariants as call;
 ghost use Rattle.nb_map.specs.declared.faults.PutFault.TheVariants as put_fault;
 ghost use Rattle.nb_map.specs.declared.faults.RenewFault.TheVariants as renew_fault;
+ghost use Rattle.nb_map.specs.Handles.{HandleOf};
 ghost use Rattle.nb_lasting.specs.Gathered.{HaveTooMany};
-ghost use Rattle.nb_lasting.specs.Holding.{HasCalledIn, HasTriedIn, IsIdleGuest, tried_of};
+ghost use Rattle.nb_lasting.specs.Holding.{HasCalledIn, HasTriedOnAs, HasTriedIn, IsIdleGuest, tried_of};
 ghost use Rattle.nb_lasting.specs.Lasting.{IsNewKey};
-ghost use Rattle.nb_lasting.specs.Renewal.{CanComeHome, CanDealAnew, CanDealBelow, HoldsBelow, HasRoomAnew, KnowOneLog, HoldsStill, IsFullAt, IsIdleToken, IsSameGuest};
+ghost use Rattle.nb_lasting.specs.Renewal.{AreAllHome, CanComeHome, CanDealAnew, CanDealBelow, HasBegunAs, HasBegunBy, HasComeHome, HasRoomAnew, HasTakenOne, HoldsBelow, KnowOneLog, HoldsStill, IsFullAt, IsIdleToken, IsSameGuest};
 ghost use Rattle.nb_lasting.specs.Shared.{FitsLanes};
-ghost use Rattle.nb_lasting.specs.Visits.{HasGrown};
+ghost use Rattle.nb_lasting.specs.Visits.{AreBack, HasGoneRound, HasMadeMapAnew, began, took_all};
 ghost use Rattle.nb_lasting.specs.declared.faults.GrowFault.TheVariants as fault;
+ghost use Rattle.nb_lasting.specs.inside.Guests.{hall_of};
 
 use crate::faults::{GrowFault, WriteFault};
 use crate::gathered::{counted, parted_anew, write_by};
@@ -33,8 +35,9 @@ fn gather<R: Wait>(rt: &R, row: &Row, token: &mut Token, handles: &mut Vec<Handl
     requires holds { HoldsBelow lane token.old.me handles.old.items }
     ensures table { token.new.table_id ≡ token.old.table_id }
     ensures guest { IsSameGuest token.old.me.0 token.new.me.0 }
-    ensures grown { HasGrown token.old.me.0.account token.new.me.0.account }
     ensures room { vec_capacity handles.new ≡ vec_capacity handles.old }
+    ensures taken { HasTakenOne token.old.me.0.account token.new.me.0.account handles.old.items
+        handles.new.items }
     ensures seated { FitsLanes row.now.table_id.slots token.new.me.0 }
     ensures holds { HoldsBelow (lane + 1) token.new.me handles.new.items }
 {
@@ -74,7 +77,7 @@ fn deal_anew(row: &Row, token: &mut Token, handles: &mut Vec<Handle>, lane: usiz
     requires holds { CanDealAnew (lane + 1) token.old.me handles.old.items }
     ensures table { token.new.table_id ≡ token.old.table_id }
     ensures guest { IsSameGuest token.old.me.0 token.new.me.0 }
-    ensures account { token.new.me.0.account ≡ token.old.me.0.account }
+    ensures begun { HasBegunBy handles.old.items token.old.me.0.account token.new.me.0.account }
     ensures map { (can : CanDealAnew (lane + 1) token.old.me handles.old.items)
         → token.new.me.0.map ≡ can.anew.shared }
     ensures holds { CanDealBelow lane token.new.me handles.new.items }
@@ -101,7 +104,8 @@ pub(crate) fn gather_all<R: Wait>(
     requires idle { IsIdleToken token.old.me }
     ensures table { token.new.table_id ≡ token.old.table_id }
     ensures guest { IsSameGuest token.old.me.0 token.new.me.0 }
-    ensures grown { HasGrown token.old.me.0.account token.new.me.0.account }
+    ensures taken { IfOk result (λ handles.
+        token.new.me.0.account ≡ took_all handles.items token.old.me.0.account) }
     ensures seated { IfOk result (λ handles. 1 ≤ seats
         → FitsLanes row.now.table_id.slots token.new.me.0) }
     ensures holds { IfOk result (λ handles. HoldsBelow seats token.new.me handles.items) }
@@ -143,7 +147,8 @@ fn come_home(row: &Row, token: &mut Token, handles: &mut Vec<Handle>, lane: usiz
     requires holds { (whole : List Entry)
         × CanComeHome own whole (lane + 1) token.old.me handles.old.items }
     ensures table { token.new.table_id ≡ token.old.table_id }
-    ensures grown { HasGrown token.old.me.0.account token.new.me.0.account }
+    ensures home { HasComeHome lane own token.old.me.0.account token.new.me.0.account
+        handles.old.items handles.new.items }
     ensures holds { (whole : List Entry)
         → CanComeHome own whole (lane + 1) token.old.me handles.old.items
         → CanComeHome own whole lane token.new.me handles.new.items }
@@ -170,7 +175,7 @@ pub(crate) fn all_home(row: &Row, token: &mut Token, handles: Vec<Handle>, own: 
         × CanComeHome own whole (length handles.items) token.old.me handles.items }
     ensures table { token.new.table_id ≡ token.old.table_id }
     ensures idle { IsIdleGuest own token.new.me }
-    ensures grown { HasGrown token.old.me.0.account token.new.me.0.account }
+    ensures home { AreAllHome own handles.items token.old.me.0.account token.new.me.0.account }
     ensures seen { (whole : List Entry)
         → CanComeHome own whole (length handles.items) token.old.me handles.items
         → log_of token.new.me.0.seen ≡ whole }
@@ -192,7 +197,7 @@ fn deal_renewed(row: &Row, token: &mut Token, handles: Vec<Handle>)
     requires anew { CanDealAnew (length handles.items) token.old.me handles.items }
     ensures table { token.new.table_id ≡ token.old.table_id }
     ensures guest { IsSameGuest token.old.me.0 token.new.me.0 }
-    ensures account { token.new.me.0.account ≡ token.old.me.0.account }
+    ensures begun { HasBegunBy handles.items token.old.me.0.account token.new.me.0.account }
     ensures map { (can : CanDealAnew (length handles.items) token.old.me handles.items)
         → token.new.me.0.map ≡ can.anew.shared }
     ensures idle { IsIdleToken token.new.me }
@@ -219,7 +224,9 @@ fn renew_all<R: Wait>(
     requires settled { KnowOneLog handles.items }
     ensures table { token.new.table_id ≡ token.old.table_id }
     ensures guest { IsSameGuest token.old.me.0 token.new.me.0 }
-    ensures account { token.new.me.0.account ≡ token.old.me.0.account }
+    ensures first { (first : HandleOf) × (token.new.me.0.account ≡ began first token.old.me.0.account) }
+    ensures begun { OnOk result (HasBegunAs shape handles.items token.old.me.0.account
+        token.new.me.0.account) }
     ensures idle { IsIdleToken token.new.me }
     ensures anew { OnOk result (token.new.me.0.map.chain.shape ≡ shape) }
     ensures full { result ≡ Err renew_fault.Full → HaveTooMany shape handles.items }
@@ -249,9 +256,10 @@ pub(crate) fn renew_counted<R: Wait>(
     requires holds { HoldsStill hall.now.table.shared.key.seats token.old.me handles.items }
     ensures table { token.new.table_id ≡ token.old.table_id }
     ensures idle { IsIdleGuest own token.new.me }
-    ensures grown { HasGrown token.old.me.0.account token.new.me.0.account }
+    ensures back { AreBack token.old.me.0.account token.new.me.0.account }
     ensures called { HasCalledIn own token.old.me.0 token.new.me.0 [] }
     ensures anew { OnOk result (HasRoomAnew hall.now.least own token.old.me.0 token.new.me.0) }
+    ensures made { OnOk result (HasMadeMapAnew (hall_of hall.now) token.old.me.0.account token.new.me.0.account) }
     ensures kept { result ≡ Err fault.OutOfMemory → token.new.me.0.seen ≡ token.old.me.0.seen }
     ensures full { result ≡ Err fault.Full
         → IsFullAt own handles.items (map_of_log (log_of token.new.me.0.seen)) }
@@ -290,7 +298,7 @@ pub(crate) fn renew_through<R: Wait>(
     requires replayed { IsReplayed (log_of token.old.me.0.seen) }
     ensures table { token.new.table_id ≡ token.old.table_id }
     ensures idle { IsIdleGuest own token.new.me }
-    ensures grown { HasGrown token.old.me.0.account token.new.me.0.account }
+    ensures round { HasGoneRound (hall_of hall.now) AreBack token.old.me.0.account token.new.me.0.account }
     ensures called { HasCalledIn own token.old.me.0 token.new.me.0 [] }
 {
     let row = &hall.table.shared;
@@ -321,7 +329,8 @@ pub(crate) fn write_or_renew<R: Wait>(
         (map_of_log (log_of token.old.me.0.seen)) }
     ensures table { token.new.table_id ≡ token.old.table_id }
     ensures idle { IsIdleGuest own token.new.me }
-    ensures grown { HasGrown token.old.me.0.account token.new.me.0.account }
+    ensures on { HasTriedOnAs (call.Write key want.now change.now) own
+        (hall_of hall.now) token.old.me.0.account token.new.me.0.account result }
     ensures tried { HasTriedIn own token.old.me.0 token.new.me.0
         (call.Write key want.now change.now) result }
 {

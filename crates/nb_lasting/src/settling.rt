@@ -23,7 +23,7 @@ use std::sync::Wait;
 impl Guest {
     /// A token takes its lane's handle in its place, to those of the lanes below.
     fn lend<R: Wait>(&mut self, rt: &R, row: &Row, token: &mut Token, handles: &mut Vec<Handle>)
-        requires table { (self.old.of ≡ row.now.table_id)
+        requires table { (self.old.of.id ≡ row.now.table_id)
             × (token.old.table_id ≡ row.now.table_id) }
         requires lane { self.old.number < row.now.key.seats }
         requires words { row.now.table_id.words ≡ 8 * row.now.key.seats }
@@ -45,7 +45,7 @@ impl Guest {
 
     /// A token gives its lane's handle back in its place: it has seen what all handles know.
     fn settle(&mut self, row: &Row, token: &mut Token, handles: &mut Vec<Handle>)
-        requires table { (self.old.of ≡ row.now.table_id)
+        requires table { (self.old.of.id ≡ row.now.table_id)
             × (token.old.table_id ≡ row.now.table_id) }
         requires lane { self.old.number < row.now.key.seats }
         requires words { row.now.table_id.words ≡ 8 * row.now.key.seats }

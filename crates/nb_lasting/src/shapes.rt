@@ -1,7 +1,7 @@
 //! The shape of a map for so many keys.
 ghost use Rattle.std.specs.Prelude.{◌≡◌, ◌≤◌, max};
 ghost use Rattle.nb_core.specs.declared.shapes.TheConstants.{MAX_SEATS, MOST_KEYS};
-ghost use Rattle.nb_lasting.specs.inside.Present.{HasSlots};
+ghost use Rattle.nb_lasting.specs.Lasting.{HasSlots};
 
 use nb_core::{MAX_EXPONENT, MOST_KEYS, Shape};
 

@@ -48,11 +48,13 @@ pub struct Out {
     pub knew: LinkedList<Event>,
 }
 
-/// The handles that a token took, each as it was then, and its guest's own one each time that the
-/// guest gave it back after its calls, the newest first. No value of it is made.
+/// The handles that a token took, each as it was then; its guest's own one each time that the guest
+/// gave it back after its calls; and the first one that it gave back each time that it made the map
+/// anew, or was refused that. The newest is first. No value of it is made.
 pub struct Account {
     pub taken: LinkedList<Handle>,
     pub returned: LinkedList<Handle>,
+    pub begun: LinkedList<Handle>,
 }
 
 /// What a token knows. A guest has its lane's number, and what it has seen. One token makes guests,

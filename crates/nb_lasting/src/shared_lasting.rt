@@ -1,12 +1,14 @@
 //! A map without an end that guests share, each in a thread of its own.
 ghost use Rattle.std.specs.Arc.{arc_value};
-ghost use Rattle.std.specs.Prelude.{All, Err, IfErr, IfOk, OnErr, [], is_ok, true, ◌≡◌, ◌≤◌, ◌↔◌};
+ghost use Rattle.std.specs.Prelude.{All, Err, IfErr, IfOk, OnErr, [], is_ok, max, true, ◌≡◌, ◌≤◌, ◌↔◌};
 ghost use Rattle.nb_core.specs.declared.shapes.TheConstants.{MAX_SEATS};
 ghost use Rattle.nb_map.specs.declared.faults.SettleFault.TheVariants as fault;
 ghost use Rattle.nb_lasting.specs.Closing.{AreNew};
 ghost use Rattle.nb_lasting.specs.Guests.{AreAllGuests, GuestsHaveSettled, HaveCome, HaveEnded};
 ghost use Rattle.nb_lasting.specs.Renewal.{IsIdleToken};
 ghost use Rattle.nb_lasting.specs.Shared.{first_lane_view};
+ghost use Rattle.nb_lasting.specs.declared.shapes.TheConstants.{LEAST_ANEW};
+ghost use Rattle.nb_lasting.specs.inside.Guests.{hall_of};
 
 use crate::closing::close_row;
 use crate::guest::{Guest, LOOK_AFTER};
@@ -33,7 +35,7 @@ pub struct SharedLasting {
 }
 
 impl Model for SharedLasting {
-    ghost use Rattle.nb_lasting.specs.Guests.{SharedOf};
+    ghost use Rattle.nb_lasting.specs.Visits.{SharedOf};
 
     ghost Value = { SharedOf };
 
@@ -56,9 +58,8 @@ fn invited(
     ensures table { token.new.table_id ≡ token.old.table_id }
     ensures idle { IfOk result (λ _. IsIdleToken token.new.me) }
     ensures of { IfOk result (λ made.
-        All (λ guest. guest.of ≡ (arc_value hall.now).table.shared.table_id) made.items) }
-    ensures come { IfOk result (λ made. AreNew guests (arc_value hall.now).table.shared.table_id
-        made.items) }
+        All (λ guest. guest.of ≡ hall_of (arc_value hall.now)) made.items) }
+    ensures come { IfOk result (λ made. AreNew guests (hall_of (arc_value hall.now)) made.items) }
 {
     let mut made = Vec::with_capacity(hall.alloc, guests)?;
     for lane in 0..guests {
@@ -82,7 +83,8 @@ impl SharedLasting {
         keys: usize,
     ) -> Result<(SharedLasting, Vec<Guest>), OutOfMemory>
         requires guests { (1 ≤ guests) × (guests ≤ MAX_SEATS) }
-        ensures { IfOk result (λ made. HaveCome guests made.0 made.1.items) }
+        ensures come { IfOk result (λ made. HaveCome guests made.0 made.1.items) }
+        ensures least { IfOk result (λ made. made.0.least ≡ max keys LEAST_ANEW) }
     {
         let room = Vec::with_capacity(alloc, guests)?;
         let (table, mut token) = open_row(alloc, shape_for(keys, guests))?;
@@ -103,10 +105,10 @@ impl SharedLasting {
     /// guest is missing, all are as they were. Whether they are this map's is asked for, as `close`
     /// does.
     pub fn settle<R: Wait>(&mut self, rt: &R, guests: &mut [Guest]) -> Result<u64, SettleFault>
-        requires of { All (λ guest. guest.of ≡ self.old.id) guests.old }
+        requires of { All (λ guest. guest.of ≡ self.old) guests.old }
         ensures all { (result ≡ Err fault.NotAll) ↔ (AreAllGuests self.old guests.old → ⊥) }
         ensures settled { IfOk result (GuestsHaveSettled guests.old guests.new) }
-        ensures of { All (λ guest. guest.of ≡ self.old.id) guests.new }
+        ensures of { All (λ guest. guest.of ≡ self.old) guests.new }
         ensures same { self.new ≡ self.old }
         ensures kept { OnErr result (guests.new ≡ guests.old) }
     {
@@ -126,7 +128,7 @@ impl SharedLasting {
         rt: &R,
         guests: Vec<Guest>,
     ) -> Result<Ended, (SharedLasting, Vec<Guest>)>
-        requires of { All (λ guest. guest.of ≡ self.id) guests.items }
+        requires of { All (λ guest. guest.of ≡ self) guests.items }
         ensures all { (is_ok result ≡ true) ↔ AreAllGuests self guests.items }
         ensures ended { IfOk result (HaveEnded guests.items) }
         ensures back { IfErr result (λ back. (back.0 ≡ self) × (back.1.items ≡ guests.items)) }

@@ -6,7 +6,8 @@ use Rattle.std.proofs.lemmas.List.{append-nil, length-map, take_all}
 use Rattle.std.proofs.lemmas.List.Elements.{All-cons, All-head, All-map, All-tail}
 use Rattle.std.proofs.lemmas.Option.{slice_get-map, slice_get_within}
 use Rattle.nb_core.specs.Log.{Entry}
-use Rattle.nb_lasting.specs.Guests.{AreAllGuests, CallsAddUp, GuestHasCalled, GuestOf, GuestsHaveSettled, HaveCome, SharedOf, with_log}
+use Rattle.nb_lasting.specs.Guests.{AreAllGuests, CallsAddUp, GuestHasCalled, GuestOf, GuestsHaveSettled, HaveCome, with_log}
+use Rattle.nb_lasting.specs.Visits.{SharedOf}
 use Rattle.nb_lasting.specs.Shared.{IsOfGuest}
 use Rattle.nb_lasting.specs.declared.faults.GrowFault.{GrowFault}
 use Rattle.nb_map.specs.declared.faults.SettleFault.{SettleFault}
@@ -106,7 +107,7 @@ pub kept-all :
     (shared : SharedOf) (before after : List Worker) → AreAllWorkers shared before
     → guests_of after ≡ guests_of before → AreAllWorkers shared after
 kept-all shared before after all same = record {
-  of = subst (All (λ (guest : GuestOf). guest.of ≡ shared.id)) (sym same) all.of;
+  of = subst (All (λ (guest : GuestOf). guest.of ≡ shared)) (sym same) all.of;
   all = subst (AreAllGuests shared) (sym same) all.all;
 }
 
@@ -133,17 +134,17 @@ all-of :
     (shared : SharedOf) (before after : List Worker) → length after ≡ length before
     → ((i : ℕ) (worker worker' : Worker) → slice_get before i ≡ Some worker
     → slice_get after i ≡ Some worker' → worker'.caller.guest.of ≡ worker.caller.guest.of)
-    → All (λ guest. guest.of ≡ shared.id) (guests_of before)
-    → All (λ guest. guest.of ≡ shared.id) (guests_of after)
+    → All (λ guest. guest.of ≡ shared) (guests_of before)
+    → All (λ guest. guest.of ≡ shared) (guests_of after)
 all-of shared [] [] count each of = of
 all-of shared [] (y ∷ after) count each of = absurd (omega (arith, count))
 all-of shared (x ∷ before) [] count each of = absurd (omega (arith, count))
 all-of shared (x ∷ before) (y ∷ after) count each of =
-    All-cons (λ (guest : GuestOf). guest.of ≡ shared.id) y.caller.guest (guests_of after)
+    All-cons (λ (guest : GuestOf). guest.of ≡ shared) y.caller.guest (guests_of after)
     (each 0 x y refl refl
-    ∙ All-head (λ (guest : GuestOf). guest.of ≡ shared.id) x.caller.guest (guests_of before) of)
+    ∙ All-head (λ (guest : GuestOf). guest.of ≡ shared) x.caller.guest (guests_of before) of)
     (all-of shared before after (omega (arith, count)) (λ i w w' at at'. each (suc i) w w' at at')
-    (All-tail (λ (guest : GuestOf). guest.of ≡ shared.id) x.caller.guest (guests_of before) of))
+    (All-tail (λ (guest : GuestOf). guest.of ≡ shared) x.caller.guest (guests_of before) of))
 
 pub still-all :
     (shared : SharedOf) (before after : List Worker) → AreAllWorkers shared before
@@ -166,7 +167,7 @@ pub all-come :
     (n : ℕ) (shared : SharedOf) (guests : List GuestOf) (workers : List Worker)
     → HaveCome n shared guests → guests_of workers ≡ guests → AreAllWorkers shared workers
 all-come n shared guests workers come is = record {
-  of = subst (All (λ (guest : GuestOf). guest.of ≡ shared.id)) (sym is) come.of;
+  of = subst (All (λ (guest : GuestOf). guest.of ≡ shared)) (sym is) come.of;
   all = record {
     count = ap length is ∙ (come.count ∙ sym come.many);
     numbered = λ i guest at.
@@ -214,8 +215,8 @@ settled-all shared before after online all settled =
     let whole = settled.settled.whole in
     let know = settled.settled.know in
     record {
-      of = subst (All (λ (guest : GuestOf). guest.of ≡ shared.id)) (sym know)
-          (All-map (λ (guest : GuestOf). guest.of ≡ shared.id) (with_log whole) (guests_of before)
+      of = subst (All (λ (guest : GuestOf). guest.of ≡ shared)) (sym know)
+          (All-map (λ (guest : GuestOf). guest.of ≡ shared) (with_log whole) (guests_of before)
           all.of);
       all = record {
         count = ap length know ∙ (length-map (guests_of before) (with_log whole) ∙ all.all.count);

@@ -4,7 +4,8 @@ use Rattle.std.specs.Prelude.{◌≡◌, ◌≢◌, ◌+◌, ◌++◌, ◌%◌, 
 use Rattle.nb_core.specs.Log.{Entry, IsReplayed, map_of_log}
 use Rattle.nb_core.specs.declared.calls.Call.{Call}
 use Rattle.nb_core.specs.declared.calls.Reply.{Reply}
-use Rattle.nb_lasting.specs.Guests.{AreAllGuests, GuestHasCalled, GuestIsRefused, GuestOf, GuestsHaveSettled, SharedOf}
+use Rattle.nb_lasting.specs.Guests.{AreAllGuests, GuestHasCalled, GuestIsRefused, GuestOf, GuestsHaveSettled}
+use Rattle.nb_lasting.specs.Visits.{SharedOf}
 use Rattle.nb_lasting.specs.Lasting.{as_write_fault}
 use Rattle.nb_lasting.specs.Shared.{IsOfGuest}
 use Rattle.nb_lasting.specs.declared.faults.GrowFault.{GrowFault}
@@ -150,7 +151,7 @@ workers_of (guest ∷ guests) (part ∷ parts) = with_guest guest part ∷ worke
 
 -- these are all workers of the map, each of which has the guest with its number
 pub record AreAllWorkers (shared : SharedOf) (workers : List Worker) : Type 0 where
-  pub of : All (λ guest. guest.of ≡ shared.id) (guests_of workers)
+  pub of : All (λ guest. guest.of ≡ shared) (guests_of workers)
   pub all : AreAllGuests shared (guests_of workers)
 
 -- each worker has the guest that it had, whatever that has called

@@ -6,19 +6,29 @@ use Rattle.nb_core.specs.Log.{IsReplayed, Numbers, log_of}
 use Rattle.nb_core.specs.declared.calls.Call.{Call}
 use Rattle.nb_core.specs.declared.calls.Reply.{Reply}
 use Rattle.nb_map.specs.declared.faults.PutFault.{PutFault}
-use Rattle.nb_lasting.specs.Guests.{GuestHasCalled, GuestHasReplied, IsOfOneVisit, GuestIsRefused, GuestOf, HasTriedBy, IsUndone, SharedOf}
-use Rattle.nb_lasting.specs.Holding.{IsIdleGuest, IsJustIn}
+use Rattle.nb_lasting.specs.Guests.{GuestHasCalled, GuestHasReplied, IsOfOneVisit, GuestIsRefused, GuestOf}
+use Rattle.nb_lasting.specs.Holding.{CanGoOn, IsIdleGuest, IsJustIn}
 use Rattle.nb_lasting.specs.Renewal.{IsIdleToken}
+use Rattle.nb_lasting.specs.Tries.{HasTriedAlone}
 use Rattle.nb_lasting.specs.declared.faults.WriteFault.{WriteFault}
-use Rattle.nb_lasting.specs.Visits.{HasGrown}
+use Rattle.nb_lasting.specs.Visits.{SharedOf}
 use Rattle.nb_lasting.specs.declared.guest.Guest.TheInside as guest
+use Rattle.nb_lasting.specs.declared.hall.Hall.{Hall}
 use Rattle.nb_lasting.specs.declared.shared.Account.{Account}
 use Rattle.nb_lasting.specs.declared.shared_lasting.SharedLasting.TheInside as shared
+
+-- the map of a hall, as contracts see it
+abbrev pub hall_of : Hall → SharedOf
+hall_of hall = record {
+  id = hall.table.shared.table_id;
+  guests = hall.table.shared.key.seats;
+  least = hall.least;
+}
 
 -- the guest, as contracts see it
 abbrev pub guest_of : guest.Inside → GuestOf
 guest_of c = record {
-  of = (arc_value c.hall).table.shared.table_id;
+  of = hall_of (arc_value c.hall);
   number = c.lane;
   log = log_of c.token.me.0.seen;
   account = c.token.me.0.account;
@@ -34,10 +44,7 @@ pub record IsGuest (c : guest.Inside) : Type 0 where
 
 -- the shared map, as contracts see it
 abbrev pub shared_of : shared.Inside → SharedOf
-shared_of c = record {
-  id = (arc_value c.hall).table.shared.table_id;
-  guests = (arc_value c.hall).table.shared.key.seats;
-}
+shared_of c = hall_of (arc_value c.hall)
 
 -- its token is of the table, and has no handle out; and there is room for all handles
 pub record IsShared (c : shared.Inside) : Type 0 where
@@ -55,13 +62,12 @@ GuestHasTried call before after (Ok None) = GuestHasCalled before after []
 GuestHasTried call before after (Ok (Some reply)) = GuestHasReplied call before after reply
 GuestHasTried call before after (Err fault) = GuestIsRefused call before after fault
 
--- its first visit was for nothing, and it went on
+-- its first try was for nothing, and it goes on
 pub record GuestHasBegun (call : Call) (before after : GuestOf) : Type 0 where
   pub outcome : Result Reply PutFault
   pub then : Account
-  pub first : HasTriedBy call before then outcome
-  pub undone : IsUndone outcome
-  pub grown : HasGrown then after.account
+  pub first : HasTriedAlone call before.number before.account then outcome
+  pub on : CanGoOn call before.number before.of outcome then after.account
 
 -- so it was where it isn't made yet
 abbrev pub HasTriedFirst :

@@ -1,9 +1,8 @@
 -- The map that is there at present, until it is made anew.
 use Rattle.std.specs.FinMap as numbers
-use Rattle.std.specs.Prelude.{◌≡◌, ◌<◌, ◌≤◌, ◌-◌, ◌^◌, ◌⊎◌, true, ℕ, [], length, map}
+use Rattle.std.specs.Prelude.{◌≡◌, ◌≤◌, ◌^◌, true, ℕ, [], length, map}
 use Rattle.nb_core.specs.Calls.{overflows}
 use Rattle.nb_core.specs.Log.{Numbers}
-use Rattle.nb_core.specs.Plans.{Plan, generations_of, size_of}
 use Rattle.nb_core.specs.declared.calls.Call.{Call}
 use Rattle.nb_core.specs.declared.shapes.TheConstants.{MAX_EXPONENT}
 use Rattle.nb_map.specs.Bulk.{put_entry}
@@ -12,7 +11,7 @@ use Rattle.nb_map.specs.Handles.{HandleOf}
 use Rattle.nb_map.specs.OneSeat.{IsOnly, held}
 use Rattle.nb_map.specs.declared.faults.PutFault.TheVariants as fault
 use Rattle.nb_map.specs.declared.faults.PutFault.{PutFault}
-use Rattle.nb_lasting.specs.Lasting.{IsNewKey}
+use Rattle.nb_lasting.specs.Lasting.{HasSlots, IsNewKey}
 
 -- the handle has the only seat of its map
 pub record IsAlone (handle : HandleOf) : Type 0 where
@@ -26,14 +25,6 @@ content handle = held handle.seat
 -- how many keys it has
 abbrev pub keys_in : HandleOf → ℕ
 keys_in handle = length (numbers.entries (content handle))
-
--- how many slots the last table has
-abbrev pub last_size : Plan → ℕ
-last_size p = size_of p (generations_of p - 1)
-
--- the last table has more slots than this, or is the greatest one
-abbrev pub HasSlots : ℕ → Plan → Type 0
-HasSlots keys p = (keys < last_size p) ⊎ (2 ^ MAX_EXPONENT ≤ last_size p)
 
 -- The map is new, and has room: it has claimed slots for its own keys alone.
 pub record IsFresh (handle : HandleOf) : Type 0 where

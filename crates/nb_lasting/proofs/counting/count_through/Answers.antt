@@ -1,7 +1,13 @@
-use Rattle.std.proofs.Common.{◌∙◌, ◌<◌, ◌≤◌, arith}
+use Rattle.std.proofs.Common.{◌∙◌, ◌<◌, ◌≤◌, ap, arith, inl, inr}
+use Rattle.std.specs.Prelude.{Option}
+use Rattle.atomic_table.specs.Table.{Me}
 use Rattle.nb_core.specs.Log.{log_of}
+use Rattle.nb_map.specs.Handles.{HandleOf}
+use Rattle.nb_lasting.specs.declared.shared.LaneView.{LaneView}
+use Rattle.nb_lasting.specs.inside.Guests.{hall_of}
 use Rattle.nb_lasting.proofs.Counted.{called-home, can-come-home, size-home, still-by}
 use Rattle.nb_lasting.proofs.Dealt.{held-still, still-single}
+use Rattle.nb_lasting.proofs.Going.{taken-all}
 use Rattle.nb_lasting.proofs.counting.count_through.Goals as goal
 
 pub counted-handles-requires : goal.counted-handles-requires
@@ -93,3 +99,31 @@ returns-in-Err-clause-called g c =
     called-home n me before after some few holds still c.args.lane
     (c.gather_all.ensures.guest.guest ∙ c.requires.idle.guest) below c.args.token.now.me.0
     c.gather_all.ensures.guest.seen c.all_home.new.token.me.0 c.all_home.ensures.seen
+
+pub returns-in_err-handles-clause-round : goal.returns-in_err-handles-clause-round
+returns-in_err-handles-clause-round g c =
+    inl (ap (λ (m : Me (Option HandleOf) LaneView). m.0.account) c.in_err-handles.ensures.kept)
+
+pub returns-in-Ok-clause-round : goal.returns-in-Ok-clause-round
+returns-in-Ok-clause-round g c =
+    inr (
+      c.in_ok-handles.handles.items,
+      c.gather_all.new.token.me.0.account,
+      taken-all (hall_of c.args.hall.now) c.slot_count-seats.result c.args.token.now.me.0.account
+          c.gather_all.new.token.me c.in_ok-handles.handles.items
+          (c.slot_count-seats.ensures ∙ c.args.hall.now.slots) c.in_ok-handles.ensures.holds
+          c.in_ok-handles.ensures.taken,
+      (c.all_home.ensures.home.0, c.all_home.ensures.home.2),
+    )
+
+pub returns-in-Err-clause-round : goal.returns-in-Err-clause-round
+returns-in-Err-clause-round g c =
+    inr (
+      c.in_ok-handles.handles.items,
+      c.gather_all.new.token.me.0.account,
+      taken-all (hall_of c.args.hall.now) c.slot_count-seats.result c.args.token.now.me.0.account
+          c.gather_all.new.token.me c.in_ok-handles.handles.items
+          (c.slot_count-seats.ensures ∙ c.args.hall.now.slots) c.in_ok-handles.ensures.holds
+          c.in_ok-handles.ensures.taken,
+      (c.all_home.ensures.home.0, c.all_home.ensures.home.2),
+    )

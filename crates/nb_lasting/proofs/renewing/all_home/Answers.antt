@@ -3,7 +3,7 @@ use Rattle.std.specs.Prelude.{◌-◌}
 use Rattle.nb_core.specs.Log.{Entry}
 use Rattle.nb_lasting.specs.Renewal.{CanComeHome}
 use Rattle.nb_lasting.proofs.Counted.{home-all}
-use Rattle.nb_lasting.proofs.Grown.{grown-none, grown-then}
+use Rattle.nb_lasting.proofs.Homes.{none-gone, one-gone}
 use Rattle.nb_lasting.proofs.renewing.all_home.Goals as goal
 
 pub come_home-requires-clause-holds : goal.come_home-requires-clause-holds
@@ -20,7 +20,7 @@ pub loop-done-init : goal.loop-done-init
 loop-done-init c = record {
   table = refl;
   count = omega arith;
-  grown = grown-none c.args.token.now.me.0.account;
+  left = none-gone c.args.own c.args.handles.items c.args.token.now.me.0.account c.requires.own;
   holds = λ whole can. can;
 }
 
@@ -39,8 +39,11 @@ loop-done-preserved c =
     record {
       table = c.come_home.ensures.table ∙ c.loop-done.invariant.table;
       count = omega (arith, left, n, c.loop-done.invariant.count);
-      grown = grown-then c.args.token.now.me.0.account c.loop-done.token.me.0.account
-          c.come_home.new.token.me.0.account c.loop-done.invariant.grown c.come_home.ensures.grown;
+      left = one-gone c.args.own c.args.handles.items c.loop-done.handles.items
+          c.come_home.new.handles.items c.args.token.now.me.0.account
+          c.loop-done.token.me.0.account c.come_home.new.token.me.0.account
+          ((c.len-count.result - 1) - c.loop-done.done) n c.loop-done.invariant.left
+          c.come_home.ensures.home;
       holds = λ whole can.
           subst (λ k. CanComeHome c.args.own whole k c.come_home.new.token.me
           c.come_home.new.handles.items) (sym left) (step whole can);
@@ -60,3 +63,8 @@ returns-clause-seen c whole can =
     omega (arith, c.len-count.ensures, c.loop-done.invariant.count, c.loop-done-test.false) in
     (home-all c.args.own (length c.loop-done.handles.items) whole c.loop-done.token.me
     c.loop-done.handles.items none (c.loop-done.invariant.holds whole can)).1
+
+pub returns-clause-home : goal.returns-clause-home
+returns-clause-home c =
+    c.loop-done.invariant.left.home
+    (omega (arith, c.len-count.ensures, c.loop-done.invariant.count, c.loop-done-test.false))

@@ -2,10 +2,8 @@ use Rattle.std.proofs.Common.{◌∙◌, ap, subst}
 use Rattle.std.specs.Prelude.{None, Option}
 use Rattle.atomic_table.specs.Table.{Me}
 use Rattle.nb_map.specs.Handles.{HandleOf}
-use Rattle.nb_lasting.specs.Visits.{HasGrown}
 use Rattle.nb_lasting.specs.declared.shared.LaneView.{LaneView}
-use Rattle.nb_lasting.proofs.Dealt.{can-deal-else, can-give-own, come-else, come-own, slot_is}
-use Rattle.nb_lasting.proofs.Grown.{given-grown, grown-same}
+use Rattle.nb_lasting.proofs.Dealt.{can-deal-else, can-give-own, come-else, come-own, dealt-account, given-account, slot_is}
 use Rattle.nb_lasting.proofs.renewing.come_home.Goals as goal
 
 pub exchange-requires : goal.exchange-requires
@@ -36,14 +34,22 @@ returns-else-lane-own-clause-holds c whole can =
     c.pop.new.self.items c.args.handles.now.items c.in-Some.handle c.in-Some.ensures.items
     c.exchange.ensures.3 c.args.own whole can c.if-lane-own.false c.give_back.ensures.given
 
-pub returns-then-lane-own-clause-grown : goal.returns-then-lane-own-clause-grown
-returns-then-lane-own-clause-grown c =
-    subst (λ (m : Me (Option HandleOf) LaneView).
-    HasGrown m.0.account c.give.new.token.me.0.account) c.exchange.ensures.3
-    (given-grown c.exchange.new.seat.me c.give.new.token.me c.give.ensures.given)
+pub returns-then-lane-own-clause-home : goal.returns-then-lane-own-clause-home
+returns-then-lane-own-clause-home c = record {
+  last = c.in-Some.handle;
+  all = c.in-Some.ensures.items;
+  given = λ same. given-account c.args.lane c.args.token.now.me c.exchange.new.seat.me
+      c.give.new.token.me c.pop.new.self.items c.args.handles.now.items c.in-Some.handle
+      c.in-Some.ensures.items c.exchange.ensures.3 c.give.ensures.given;
+  dealt = λ other. absurd (other c.if-lane-own.true);
+}
 
-pub returns-else-lane-own-clause-grown : goal.returns-else-lane-own-clause-grown
-returns-else-lane-own-clause-grown c =
-    grown-same c.args.token.now.me.0.account c.give_back.new.token.me.0.account
-    (ap (λ (v : LaneView). v.account) c.give_back.ensures.given.0
-    ∙ ap (λ (m : Me (Option HandleOf) LaneView). m.0.account) c.exchange.ensures.3)
+pub returns-else-lane-own-clause-home : goal.returns-else-lane-own-clause-home
+returns-else-lane-own-clause-home c = record {
+  last = c.in-Some.handle;
+  all = c.in-Some.ensures.items;
+  given = λ same. absurd (c.if-lane-own.false same);
+  dealt = λ other. dealt-account c.args.lane c.args.token.now.me c.exchange.new.seat.me
+      c.give_back.new.token.me c.pop.new.self.items c.args.handles.now.items c.in-Some.handle
+      c.in-Some.ensures.items c.exchange.ensures.3 c.give_back.ensures.given;
+}

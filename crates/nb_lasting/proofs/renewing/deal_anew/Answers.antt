@@ -1,5 +1,6 @@
+use Rattle.std.proofs.Common.{◌∙◌, ap, length, slice_get}
 use Rattle.std.specs.Prelude.{None}
-use Rattle.nb_lasting.proofs.Dealt.{begun, begun-map, can-renew, slot_is}
+use Rattle.nb_lasting.proofs.Dealt.{begun, begun-account, begun-map, can-renew, slot_is, snoc_last}
 use Rattle.nb_lasting.proofs.renewing.deal_anew.Goals as goal
 
 pub exchange-requires : goal.exchange-requires
@@ -23,3 +24,14 @@ returns-clause-holds c =
     begun c.args.lane c.args.token.now.me c.exchange.new.seat.me c.give_anew.new.token.me
     c.pop.new.self.items c.args.handles.now.items c.in-Some.handle c.in-Some.ensures.items
     c.exchange.ensures.3 c.requires.holds c.give_anew.ensures.given
+
+pub returns-clause-begun : goal.returns-clause-begun
+returns-clause-begun c = record {
+  first = c.in-Some.handle;
+  place = length c.pop.new.self.items;
+  there = ap (λ l. slice_get l (length c.pop.new.self.items)) c.in-Some.ensures.items
+      ∙ snoc_last c.pop.new.self.items c.in-Some.handle;
+  account = begun-account c.args.lane c.args.token.now.me c.exchange.new.seat.me
+      c.give_anew.new.token.me c.pop.new.self.items c.args.handles.now.items c.in-Some.handle
+      c.in-Some.ensures.items c.exchange.ensures.3 c.give_anew.ensures.given;
+}

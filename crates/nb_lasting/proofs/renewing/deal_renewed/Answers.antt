@@ -10,3 +10,13 @@ returns-clause-map c can =
     c.deal_all.ensures.map
     ∙ subst (λ k. (can : CanDealAnew k c.args.token.now.me c.args.handles.items)
     → c.deal_anew.new.token.me.0.map ≡ can.anew.shared) n c.deal_anew.ensures.map can
+
+pub returns-clause-begun : goal.returns-clause-begun
+returns-clause-begun c =
+    let begun = c.deal_anew.ensures.begun in
+    record {
+      first = begun.first;
+      place = begun.place;
+      there = begun.there;
+      account = c.deal_all.ensures.account ∙ begun.account;
+    }

@@ -1,13 +1,12 @@
-use Rattle.std.proofs.Common.{◌∙◌, ◌∷◌, ◌+◌, Some, ap, subst, sym}
+use Rattle.std.proofs.Common.{◌∙◌, ◌∷◌, ◌+◌, Some, ap, refl, subst, sym}
 use Rattle.std.specs.Prelude.{Option}
 use Rattle.atomic_table.specs.Table.{Me, rest}
 use Rattle.nb_map.specs.Handles.{HandleOf}
 use Rattle.nb_lasting.specs.Renewal.{HoldsBelow}
-use Rattle.nb_lasting.specs.Visits.{HasGrown}
+use Rattle.nb_lasting.specs.Visits.{took}
 use Rattle.nb_lasting.specs.declared.shared.LaneView.{LaneView}
-use Rattle.nb_lasting.proofs.Calling.{slot-rest}
+use Rattle.nb_lasting.proofs.Calling.{slot-rest, taken-is}
 use Rattle.nb_lasting.proofs.Dealt.{gathered}
-use Rattle.nb_lasting.proofs.Grown.{taken-grown}
 use Rattle.nb_lasting.proofs.renewing.gather.Goals as goal
 
 pub exchange-requires : goal.exchange-requires
@@ -29,8 +28,16 @@ returns-clause-holds g c =
     (c.exchange.ensures.2 ∙ ap (λ y. (c.args.lane, y) ∷ rest c.hold.new.token.me.1) c.in-Some.is)
     c.exchange.ensures.3)
 
-pub returns-clause-grown : goal.returns-clause-grown
-returns-clause-grown g c =
-    subst (λ (m : Me (Option HandleOf) LaneView).
-    HasGrown c.args.token.now.me.0.account m.0.account) (sym c.exchange.ensures.3)
-    (taken-grown c.args.lane c.args.token.now.me c.hold.new.token.me c.hold.ensures.taken)
+pub returns-clause-taken : goal.returns-clause-taken
+returns-clause-taken g c =
+    let found = c.exchange.ensures.2
+    ∙ ap (λ y. (c.args.lane, y) ∷ rest c.hold.new.token.me.1) c.in-Some.is in
+    let same = taken-is c.args.lane c.args.token.now.me c.hold.new.token.me c.hold.ensures.taken
+    (Some c.in-Some.handle) c.in-Some.handle found refl in
+    record {
+      handle = c.in-Some.handle;
+      account = ap (λ (m : Me (Option HandleOf) LaneView). m.0.account) c.exchange.ensures.3
+          ∙ c.hold.ensures.taken.account
+          ∙ ap (λ h. took h c.args.token.now.me.0.account) same;
+      all = c.push_reserved.ensures.items;
+    }

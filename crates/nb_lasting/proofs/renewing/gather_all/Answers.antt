@@ -1,13 +1,15 @@
-use Rattle.std.proofs.Common.{◌∙◌, ap, length, refl, arith}
+use Rattle.std.proofs.Common.{◌∙◌, ap, length, refl, sym, arith}
 use Rattle.nb_lasting.proofs.Dealt.{holds-none}
-use Rattle.nb_lasting.proofs.Grown.{grown-none, grown-then}
+use Rattle.nb_lasting.proofs.Grown.{took-snoc}
+use Rattle.nb_lasting.specs.Visits.{took, took_all}
 use Rattle.nb_lasting.proofs.renewing.gather_all.Goals as goal
 
 pub loop-lane-init : goal.loop-lane-init
 loop-lane-init g c = record {
   table = refl;
   guest = record { guest = refl; seen = refl; dealer = refl };
-  grown = grown-none c.args.token.now.me.0.account;
+  account = sym (ap (λ hs. took_all hs c.args.token.now.me.0.account)
+      c.in_ok-handles.ensures.items);
   room = omega (arith, c.in_ok-handles.ensures.capacity);
   count = ap length c.in_ok-handles.ensures.items;
   seated = λ some. absurd (omega (arith, some));
@@ -26,8 +28,9 @@ loop-lane-preserved g c =
         seen = is.guest.seen ∙ was.guest.seen;
         dealer = is.guest.dealer ∙ was.guest.dealer;
       };
-      grown = grown-then c.args.token.now.me.0.account c.loop-lane.token.me.0.account
-          c.gather.new.token.me.0.account was.grown is.grown;
+      account = is.taken.account ∙ ap (took is.taken.handle) was.account
+          ∙ sym (took-snoc c.loop-lane.handles.items is.taken.handle c.args.token.now.me.0.account)
+          ∙ ap (λ hs. took_all hs c.args.token.now.me.0.account) (sym is.taken.all);
       room = omega (arith, is.room, was.room);
       count = is.holds.held.count;
       seated = λ _. is.seated;

@@ -1,6 +1,7 @@
 use Rattle.std.proofs.Common.{◌∙◌, ◌≤◌, ap, subst, sym}
 use Rattle.nb_map.specs.Maps.{MapOf}
 use Rattle.nb_lasting.proofs.Dealt.{all-of-map, deals, done_ok, still-single}
+use Rattle.nb_lasting.proofs.Renewed.{begun-as}
 use Rattle.nb_lasting.proofs.renewing.renew_all.Goals as goal
 
 pub parted_anew-handles-requires : goal.parted_anew-handles-requires
@@ -44,3 +45,17 @@ returns-clause-anew g c =
 pub returns-clause-full : goal.returns-clause-full
 returns-clause-full g c full =
     let is = c.parted_anew-handles.ensures in (is.joined, is.seats, is.full full)
+
+pub returns-clause-first : goal.returns-clause-first
+returns-clause-first g c =
+    let begun = c.deal_renewed.ensures.begun in (begun.first, begun.account)
+
+pub returns-clause-begun : goal.returns-clause-begun
+returns-clause-begun g c =
+    let me = c.args.token.now.me.0 in
+    let holds = c.requires.holds in
+    begun-as c.args.shape c.args.shape.seats me.map me.filled me.past holds.still.know
+    c.args.handles.items c.parted_anew-handles.result.0.items me.account
+    c.deal_renewed.new.token.me.0.account c.parted_anew-handles.result.1
+    (subst (λ n. 1 ≤ n) (sym c.requires.shape) c.args.hall.now.some) holds.still.held
+    c.parted_anew-handles.ensures c.deal_renewed.ensures.begun

@@ -1,10 +1,10 @@
-use Rattle.std.proofs.Common.{◌≡◌, ◌∙◌, ◌*◌, ◌<◌, ◌≤◌, ◌^◌, Err, ap, arith, max, refl, subst, sym}
+use Rattle.std.proofs.Common.{◌≡◌, ◌∙◌, ◌*◌, ◌<◌, ◌≤◌, ◌^◌, Err, ap, arith, inl, inr, max, refl, subst, sym}
 use Rattle.nb_core.specs.Log.{log_of}
 use Rattle.nb_lasting.specs.Renewal.{HoldsStill}
-use Rattle.nb_lasting.specs.inside.Present.{HasSlots}
-use Rattle.nb_lasting.proofs.Counted.{called-home, can-come-home, full-home, nothing-seen, one-log, room-anew, room-left, still-by, still-holds}
+use Rattle.nb_lasting.specs.Lasting.{HasSlots}
+use Rattle.nb_lasting.proofs.Counted.{called-home, can-come-home, full-home, made-anew, nothing-seen, one-log, room-anew, room-left, still-by, still-holds}
 use Rattle.nb_lasting.proofs.Dealt.{still-dealt, still-single}
-use Rattle.nb_lasting.proofs.Grown.{grown-same}
+use Rattle.nb_lasting.specs.inside.Guests.{hall_of}
 use Rattle.nb_lasting.proofs.renewing.renew_counted.Goals as goal
 
 pub counted-handles-requires : goal.counted-handles-requires
@@ -132,6 +132,20 @@ returns-in-Ok-renew_all-clause-anew g c =
     (subst (HasSlots c.max-keys.result) (sym c.in-Ok-renew_all.ensures.anew)
     c.shape_for-shape.ensures.slots)
 
+pub returns-in-Ok-renew_all-clause-made : goal.returns-in-Ok-renew_all-clause-made
+returns-in-Ok-renew_all-clause-made g c =
+    let n = c.args.hall.now.table.shared.key.seats in
+    let me = c.args.token.now.me in
+    let before = c.args.handles.items in
+    let after = c.counted-handles.result.0.items in
+    let twice : c.max-keys.result ≡ max (2 * c.in-Ok.size) c.args.hall.now.least =
+    omega (arith, c.saturating_mul.ensures, c.max-keys.ensures, c.if-size-ge-GREATEST.false) in
+    made-anew n me before after c.args.hall.now.some c.args.hall.now.few c.requires.holds
+    c.counted-handles.result.1 c.counted-handles.ensures c.in-Ok.size c.in-Ok.is
+    c.shape_for-shape.result c.max-keys.result (hall_of c.args.hall.now) twice
+    c.shape_for-shape.ensures.slots
+    me.0.account c.renew_all.new.token.me.0.account c.in-Ok-renew_all.ensures.begun
+
 pub returns-in-Ok-renew_all-clause-called : goal.returns-in-Ok-renew_all-clause-called
 returns-in-Ok-renew_all-clause-called g c =
     nothing-seen c.args.own c.args.token.now.me.0 c.renew_all.new.token.me.0
@@ -147,10 +161,18 @@ returns-in-Err g c = record {
     slots = c.renew_all.ensures.idle.slots;
   };
   anew = tt;
-  grown = grown-same c.args.token.now.me.0.account c.renew_all.new.token.me.0.account
-      c.renew_all.ensures.account;
+  back = inr (inr c.renew_all.ensures.first);
+  made = tt;
   called = nothing-seen c.args.own c.args.token.now.me.0 c.renew_all.new.token.me.0
       c.renew_all.ensures.guest.seen c.requires.replayed;
   kept = λ _. c.renew_all.ensures.guest.seen;
   full = λ is. absurd cc;
 }
+
+pub returns-in-Ok-renew_all-clause-back : goal.returns-in-Ok-renew_all-clause-back
+returns-in-Ok-renew_all-clause-back g c =
+    inr (inr c.renew_all.ensures.first)
+
+pub returns-then-size-ge-GREATEST-clause-back : goal.returns-then-size-ge-GREATEST-clause-back
+returns-then-size-ge-GREATEST-clause-back g c =
+    inr (inl (c.all_home.ensures.home.0, c.all_home.ensures.home.2))

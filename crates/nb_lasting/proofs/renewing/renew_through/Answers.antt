@@ -1,8 +1,12 @@
-use Rattle.std.proofs.Common.{◌∙◌, subst, sym}
+use Rattle.std.proofs.Common.{◌∙◌, ap, inl, inr, subst}
+use Rattle.std.specs.Prelude.{Option}
+use Rattle.atomic_table.specs.Table.{Me}
+use Rattle.nb_map.specs.Handles.{HandleOf}
 use Rattle.nb_lasting.specs.Renewal.{HoldsStill}
-use Rattle.nb_lasting.specs.Visits.{HasGrown}
+use Rattle.nb_lasting.specs.declared.shared.LaneView.{LaneView}
+use Rattle.nb_lasting.specs.inside.Guests.{hall_of}
 use Rattle.nb_lasting.proofs.Dealt.{as-held, held-still}
-use Rattle.nb_lasting.proofs.Grown.{grown-then}
+use Rattle.nb_lasting.proofs.Going.{taken-all}
 use Rattle.nb_lasting.proofs.renewing.renew_through.Goals as goal
 
 pub deal_all-requires-clause-holds : goal.deal_all-requires-clause-holds
@@ -17,12 +21,30 @@ renew_counted-requires-clause-holds g c =
     (held-still c.slot_count.result c.gather_all.new.token.me c.in_ok-handles.handles.items
     c.in_ok-handles.ensures.holds)
 
-pub returns-then-load-renewals-clause-grown : goal.returns-then-load-renewals-clause-grown
-returns-then-load-renewals-clause-grown g c =
-    subst (HasGrown c.args.token.now.me.0.account) (sym c.deal_all.ensures.account)
-    c.gather_all.ensures.grown
+pub returns-then-load-renewals-clause-round : goal.returns-then-load-renewals-clause-round
+returns-then-load-renewals-clause-round g c =
+    inr (
+      c.in_ok-handles.handles.items,
+      c.gather_all.new.token.me.0.account,
+      taken-all (hall_of c.args.hall.now) c.slot_count.result c.args.token.now.me.0.account
+          c.gather_all.new.token.me c.in_ok-handles.handles.items
+          (c.slot_count.ensures ∙ c.args.hall.now.slots) c.in_ok-handles.ensures.holds
+          c.in_ok-handles.ensures.taken,
+      inl c.deal_all.ensures.account,
+    )
 
-pub returns-clause-grown : goal.returns-clause-grown
-returns-clause-grown g c =
-    grown-then c.args.token.now.me.0.account c.gather_all.new.token.me.0.account
-    c.renew_counted.new.token.me.0.account c.gather_all.ensures.grown c.renew_counted.ensures.grown
+pub returns-clause-round : goal.returns-clause-round
+returns-clause-round g c =
+    inr (
+      c.in_ok-handles.handles.items,
+      c.gather_all.new.token.me.0.account,
+      taken-all (hall_of c.args.hall.now) c.slot_count.result c.args.token.now.me.0.account
+          c.gather_all.new.token.me c.in_ok-handles.handles.items
+          (c.slot_count.ensures ∙ c.args.hall.now.slots) c.in_ok-handles.ensures.holds
+          c.in_ok-handles.ensures.taken,
+      c.renew_counted.ensures.back,
+    )
+
+pub returns-in_err-handles-clause-round : goal.returns-in_err-handles-clause-round
+returns-in_err-handles-clause-round g c =
+    inl (ap (λ (m : Me (Option HandleOf) LaneView). m.0.account) c.in_err-handles.ensures.kept)

@@ -1,13 +1,19 @@
-use Rattle.std.proofs.Common.{◌≡◌, ◌∙◌, ◌<◌, ◌≤◌, [], Err, ap, arith, subst, sym}
+use Rattle.std.proofs.Common.{◌≡◌, ◌∙◌, ◌<◌, ◌≤◌, [], Err, ap, arith, false, inl, inr, subst, sym, true}
+use Rattle.std.specs.Prelude.{Option}
+use Rattle.atomic_table.specs.Table.{Me}
 use Rattle.nb_core.specs.Log.{log_of}
 use Rattle.nb_core.specs.declared.calls.Call.TheVariants.{Write}
+use Rattle.nb_map.specs.Handles.{HandleOf}
 use Rattle.nb_map.specs.declared.faults.PutFault.TheVariants as put_fault
-use Rattle.nb_lasting.specs.Holding.{HasTriedIn}
+use Rattle.nb_lasting.specs.Holding.{HasTriedOnAs, HasTriedIn}
 use Rattle.nb_lasting.specs.Lasting.{as_write_fault}
 use Rattle.nb_lasting.specs.Renewal.{HoldsStill}
 use Rattle.nb_lasting.specs.Shared.{known_of}
+use Rattle.nb_lasting.specs.Tries.{NoRoom}
+use Rattle.nb_lasting.specs.declared.shared.LaneView.{LaneView}
+use Rattle.nb_lasting.specs.inside.Guests.{hall_of}
 use Rattle.nb_lasting.proofs.Counted.{called-from}
-use Rattle.nb_lasting.proofs.Grown.{grown-then}
+use Rattle.nb_lasting.proofs.Going.{goes-anew, goes-refused, goes-with-all, taken-all}
 use Rattle.nb_lasting.proofs.Written.{full-crowded, full-still, is-err, refused-so, tried-so, wrote-home, wrote-since}
 use Rattle.nb_lasting.proofs.renewing.write_or_renew.Goals as goal
 
@@ -101,17 +107,50 @@ returns-clause-tried g c =
     c.args.token.now.me.0 c.gather_all.ensures.guest.seen c.all_home.new.token.me.0
     c.all_home.ensures.seen))
 
-pub returns-in_err-renew_counted-clause-grown : goal.returns-in_err-renew_counted-clause-grown
-returns-in_err-renew_counted-clause-grown g c =
-    grown-then c.args.token.now.me.0.account c.gather_all.new.token.me.0.account
-    c.renew_counted.new.token.me.0.account c.gather_all.ensures.grown c.renew_counted.ensures.grown
+pub returns-in_default-clause-on : goal.returns-in_default-clause-on
+returns-in_default-clause-on g c =
+    NoRoom (inl (ap (λ (m : Me (Option HandleOf) LaneView). m.0.account) c.in_default.ensures.kept))
 
-pub returns-clause-grown : goal.returns-clause-grown
-returns-clause-grown g c =
-    grown-then c.args.token.now.me.0.account c.gather_all.new.token.me.0.account
-    c.all_home.new.token.me.0.account c.gather_all.ensures.grown c.all_home.ensures.grown
+pub returns-in_err-renew_counted-clause-on : goal.returns-in_err-renew_counted-clause-on
+returns-in_err-renew_counted-clause-on g c =
+    let old = c.args.token.now.me.0.account in
+    let new = c.renew_counted.new.token.me.0.account in
+    goes-refused (Write c.args.key c.args.want.now c.args.change.now) c.args.own
+    (hall_of c.args.hall.now) old new c.from_residual.result
+    (as_write_fault c.in_err-renew_counted.field-0.0)
+    (is-err c.from_residual.result (as_write_fault c.in_err-renew_counted.field-0.0)
+    c.from_residual.ensures.1)
+    (inr (
+      c.in-Ok.handles.items,
+      c.gather_all.new.token.me.0.account,
+      taken-all (hall_of c.args.hall.now) c.slot_count.result old c.gather_all.new.token.me
+          c.in-Ok.handles.items (c.slot_count.ensures ∙ c.args.hall.now.slots)
+          c.in-Ok.ensures.holds c.in-Ok.ensures.taken,
+      c.renew_counted.ensures.back,
+    ))
 
-pub returns-then-found_full-clause-grown : goal.returns-then-found_full-clause-grown
-returns-then-found_full-clause-grown g c =
-    grown-then c.args.token.now.me.0.account c.gather_all.new.token.me.0.account
-    c.renew_counted.new.token.me.0.account c.gather_all.ensures.grown c.renew_counted.ensures.grown
+pub returns-then-found_full-clause-on : goal.returns-then-found_full-clause-on
+returns-then-found_full-clause-on g c =
+    let old = c.args.token.now.me.0.account in
+    goes-anew (Write c.args.key c.args.want.now c.args.change.now) c.args.own
+    (hall_of c.args.hall.now) old c.in-Ok.handles.items c.gather_all.new.token.me.0.account
+    (taken-all (hall_of c.args.hall.now) c.slot_count.result old c.gather_all.new.token.me
+    c.in-Ok.handles.items (c.slot_count.ensures ∙ c.args.hall.now.slots) c.in-Ok.ensures.holds
+    c.in-Ok.ensures.taken)
+    c.renew_counted.new.token.me.0.account c.in_ok-renew_counted.ensures.made
+
+pub returns-clause-on : goal.returns-clause-on
+returns-clause-on g c =
+    let call = Write c.args.key c.args.want.now c.args.change.now in
+    let of = hall_of c.args.hall.now in
+    let old = c.args.token.now.me.0.account in
+    let new = c.all_home.new.token.me.0.account in
+    subst (HasTriedOnAs call c.args.own of old new) (sym c.tried.ensures)
+    (goes-with-all call c.args.own of old c.in-Ok.handles.items
+    c.gather_all.new.token.me.0.account
+    (taken-all of c.slot_count.result old c.gather_all.new.token.me c.in-Ok.handles.items
+    (c.slot_count.ensures ∙ c.args.hall.now.slots) c.in-Ok.ensures.holds c.in-Ok.ensures.taken)
+    c.write_by-reply.new.handles.items new c.write_by-reply.result c.write_by-reply.ensures
+    c.all_home.ensures.home (λ full.
+    absurd (let wrong : true ≡ false = sym (c.found_full.ensures.1 full)
+    ∙ c.if-found_full.false in cc)))

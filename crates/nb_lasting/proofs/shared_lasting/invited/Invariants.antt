@@ -1,6 +1,7 @@
 use Rattle.std.proofs.Common.{◌≡◌, ◌≤◌, [], All, Some, vec_capacity}
 use Rattle.std.specs.Arc.{arc_value}
 use Rattle.nb_lasting.specs.Closing.{AreNew}
+use Rattle.nb_lasting.specs.inside.Guests.{hall_of}
 use Rattle.nb_lasting.proofs.shared_lasting.invited.Given as goal
 
 abbrev pub invariant-loop-lane : goal.invariant-loop-lane
@@ -10,6 +11,6 @@ invariant-loop-lane l = record {
   outs : l.token.me.0.outs ≡ [];
   slots : l.token.me.1 ≡ [];
   room : l.fn.guests ≤ vec_capacity l.made;
-  of : All (λ guest. guest.of ≡ (arc_value l.fn.hall).table.shared.table_id) l.made.items;
-  come : AreNew l.lane (arc_value l.fn.hall).table.shared.table_id l.made.items;
+  of : All (λ guest. guest.of ≡ hall_of (arc_value l.fn.hall)) l.made.items;
+  come : AreNew l.lane (hall_of (arc_value l.fn.hall)) l.made.items;
 }

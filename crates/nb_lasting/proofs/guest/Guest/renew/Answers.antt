@@ -1,8 +1,9 @@
 use Rattle.std.proofs.Common.{[], ap, refl, subst}
 use Rattle.nb_core.specs.Log.{log_of}
 use Rattle.nb_lasting.specs.Guests.{GuestHasCalled, GuestOf}
-use Rattle.nb_lasting.specs.Visits.{HasGrown}
-use Rattle.nb_lasting.specs.inside.Guests.{guest_of}
+use Rattle.nb_lasting.specs.Visits.{AreBack, HasGoneRound}
+use Rattle.nb_lasting.specs.declared.hall.Hall.{Hall}
+use Rattle.nb_lasting.specs.inside.Guests.{guest_of, hall_of}
 use Rattle.nb_lasting.proofs.Visiting.{called_through}
 use Rattle.nb_lasting.proofs.guest.Guest.renew.Goals as goal
 
@@ -20,7 +21,10 @@ returns g c =
           subst (λ (guest : GuestOf). GuestHasCalled guest after []) c.self.view_is
           (called_through (guest_of c.self.inside) after c.self.inside.token.me.0
           c.renew_through.new.token.me.0 [] refl refl refl refl c.renew_through.ensures.called);
-      grown = subst (λ (guest : GuestOf). HasGrown guest.account after.account) c.self.view_is
-          c.renew_through.ensures.grown;
+      round = subst (λ (guest : GuestOf). HasGoneRound guest.of AreBack guest.account after.account)
+          c.self.view_is
+          (subst (λ (hall : Hall). HasGoneRound (hall_of hall) AreBack
+          c.self.inside.token.me.0.account after.account) c.deref.ensures
+          c.renew_through.ensures.round);
       left = ap (λ (guest : GuestOf). guest.left) c.self.view_is;
     }

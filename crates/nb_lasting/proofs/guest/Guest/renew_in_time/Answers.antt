@@ -1,4 +1,4 @@
-use Rattle.std.proofs.Common.{[], ap, subst}
+use Rattle.std.proofs.Common.{◌∙◌, [], ap, subst}
 use Rattle.nb_lasting.specs.Guests.{GuestHasCalled, GuestOf}
 use Rattle.nb_lasting.proofs.Visiting.{then-first}
 use Rattle.nb_lasting.proofs.Working.{looked-more, looked-only}
@@ -16,7 +16,9 @@ returns-then-should_renew-clause-due g c none =
     looked-more c.args.self.now c.set_left.new.self c.look-found.new.self c.renew.new.self
     c.look-found.result (ap (λ (guest : GuestOf). guest.number) c.set_left.ensures)
     (ap (λ (guest : GuestOf). guest.account) c.set_left.ensures) c.look-found.ensures.looked
-    (c.should_renew.ensures.0 c.if-should_renew.true) c.renew.ensures.grown
+    (c.should_renew.ensures.0 c.if-should_renew.true)
+    (c.look-found.ensures.called.of ∙ ap (λ (guest : GuestOf). guest.of) c.set_left.ensures)
+    c.renew.ensures.round
 
 pub returns-else-should_renew-clause-due : goal.returns-else-should_renew-clause-due
 returns-else-should_renew-clause-due g c none =

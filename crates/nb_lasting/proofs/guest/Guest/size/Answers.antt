@@ -1,7 +1,9 @@
 use Rattle.std.proofs.Common.{[], refl, subst}
 use Rattle.nb_core.specs.Log.{log_of}
 use Rattle.nb_lasting.specs.Guests.{GuestHasCalled, GuestOf}
-use Rattle.nb_lasting.specs.inside.Guests.{guest_of}
+use Rattle.nb_lasting.specs.Visits.{AreBackSeen, HasGoneRound}
+use Rattle.nb_lasting.specs.declared.hall.Hall.{Hall}
+use Rattle.nb_lasting.specs.inside.Guests.{guest_of, hall_of}
 use Rattle.nb_lasting.proofs.Visiting.{called_through}
 use Rattle.nb_lasting.proofs.guest.Guest.size.Goals as goal
 
@@ -17,3 +19,10 @@ returns-clause-called g c =
     subst (λ (guest : GuestOf). GuestHasCalled guest after []) c.self.view_is
     (called_through (guest_of c.self.inside) after c.self.inside.token.me.0
     c.count_through.new.token.me.0 [] refl refl refl refl c.count_through.ensures.called)
+
+pub returns-clause-round : goal.returns-clause-round
+returns-clause-round g c =
+    let new = c.count_through.new.token.me.0.account in
+    subst (λ (guest : GuestOf). HasGoneRound guest.of AreBackSeen guest.account new) c.self.view_is
+    (subst (λ (hall : Hall). HasGoneRound (hall_of hall) AreBackSeen
+    c.self.inside.token.me.0.account new) c.deref.ensures c.count_through.ensures.round)

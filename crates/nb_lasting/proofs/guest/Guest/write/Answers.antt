@@ -28,4 +28,6 @@ returns-in-Ok-None-clause-once g c =
     then-once call c.args.self.now c.try_write.new.self c.write_on.new.self
     (subst (HasTriedFirst call c.args.self.now c.try_write.new.self)
     (c.in-Ok-None.is ∙ ap Ok c.in-Ok-None.field-0-is) c.try_write.ensures.first)
-    c.write_on.ensures.grown
+    (subst (GuestHasTried call c.args.self.now c.try_write.new.self)
+    (c.in-Ok-None.is ∙ ap Ok c.in-Ok-None.field-0-is) c.try_write.ensures.tried)
+    c.write_on.ensures.once

@@ -2,7 +2,8 @@ use Rattle.std.proofs.Common.{ap, refl, subst}
 use Rattle.nb_core.specs.declared.calls.Call.TheVariants.{Write}
 use Rattle.nb_lasting.specs.inside.Guests.{HasWrittenHere}
 use Rattle.nb_core.specs.Log.{log_of}
-use Rattle.nb_lasting.specs.Guests.{GuestOf, HasTriedBy}
+use Rattle.nb_lasting.specs.Guests.{GuestOf}
+use Rattle.nb_lasting.specs.Tries.{HasTriedAlone}
 use Rattle.nb_lasting.specs.inside.Guests.{guest_of}
 use Rattle.nb_lasting.proofs.Visiting.{written-through}
 use Rattle.nb_lasting.proofs.guest.Guest.write_here.Goals as goal
@@ -24,8 +25,8 @@ returns g c =
           (written-through call (guest_of c.self.inside) after c.self.inside.token.me.0
           c.write_through.new.token.me.0 c.write_through.result refl refl refl refl
           c.write_through.ensures.called);
-      visited = subst (λ (guest : GuestOf). HasTriedBy call guest after.account
-          c.write_through.result)
+      visited = subst (λ (guest : GuestOf).
+          HasTriedAlone call guest.number guest.account after.account c.write_through.result)
           c.self.view_is c.write_through.ensures.visited;
       left = ap (λ (guest : GuestOf). guest.left) c.self.view_is;
     }

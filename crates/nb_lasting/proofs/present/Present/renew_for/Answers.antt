@@ -1,5 +1,5 @@
 use Rattle.std.proofs.Common.{subst, sym}
-use Rattle.nb_lasting.specs.inside.Present.{HasSlots}
+use Rattle.nb_lasting.specs.Lasting.{HasSlots}
 use Rattle.nb_lasting.proofs.Alone.{has-room, kept-alone, renewed-alone, too-many}
 use Rattle.nb_lasting.proofs.present.Present.renew_for.Goals as goal
 

@@ -1,0 +1,82 @@
+-- How a write goes on with all handles.
+use Rattle.std.proofs.Common.{◌≡◌, ◌≢◌, ◌∙◌, ℕ, List, Some, ap, refl, slice_get, subst, sym}
+use Rattle.std.specs.Prelude.{Err, None, Ok, Option, Result}
+use Rattle.atomic_table.specs.Table.{Me}
+use Rattle.nb_core.specs.declared.calls.Call.{Call}
+use Rattle.nb_core.specs.declared.calls.Reply.{Reply}
+use Rattle.nb_map.specs.Handles.{HandleOf}
+use Rattle.nb_map.specs.declared.faults.PutFault.TheVariants as put_fault
+use Rattle.nb_map.specs.declared.faults.PutFault.{PutFault}
+use Rattle.nb_lasting.proofs.Written.{same-in, set-at}
+use Rattle.nb_lasting.specs.Gathered.{HasWrittenBy}
+use Rattle.nb_lasting.specs.Holding.{HasTriedOnAs, tried_of}
+use Rattle.nb_lasting.specs.Renewal.{AreAllHome, HoldsBelow}
+use Rattle.nb_lasting.specs.Tries.{Again, Anew, Done, HasTriedWithAll, NoRoom, WithAll}
+use Rattle.nb_lasting.specs.Visits.{AreBack, HasGoneRound, HasMadeMapAnew, HasTakenAll, SharedOf, gave, took_all}
+use Rattle.nb_lasting.specs.declared.faults.WriteFault.{WriteFault}
+use Rattle.nb_lasting.specs.declared.shared.Account.{Account}
+use Rattle.nb_lasting.specs.declared.shared.LaneView.{LaneView}
+
+-- all handles are taken
+pub taken-all :
+    (of : SharedOf) (n : ℕ) (before : Account) (me : Me (Option HandleOf) LaneView)
+    (handles : List HandleOf) → n ≡ of.guests → HoldsBelow n me handles
+    → me.0.account ≡ took_all handles before → HasTakenAll of handles before me.0.account
+taken-all of n before me handles many holds account = record {
+  count = holds.held.count ∙ many;
+  numbered = λ i h at. (holds.held.each i h at).0.number;
+  account = account;
+}
+
+module _ (call : Call) (lane : ℕ) (of : SharedOf) (before : Account) where
+  -- it is refused
+  pub goes-refused :
+      (after : Account) (result : Result (Option Reply) WriteFault) (fault : WriteFault)
+      → result ≡ Err fault → HasGoneRound of AreBack before after
+      → HasTriedOnAs call lane of before after result
+  goes-refused after result fault is round =
+      subst (HasTriedOnAs call lane of before after) (sym is) (NoRoom round)
+
+  module _ (handles : List HandleOf) (then : Account)
+      (taken : HasTakenAll of handles before then) where
+    -- the map is made anew
+    pub goes-anew : (after : Account) → HasMadeMapAnew of then after
+        → HasTriedOnAs call lane of before after (Ok None)
+    goes-anew after anew = λ outcome next last made try on.
+        Anew (record { handles = handles; then = then; taken = taken; anew = anew }) try on
+
+    -- it wrote by its own handle
+    pub goes-with-all :
+        (more : List HandleOf) (after : Account) (reply : Result Reply PutFault)
+        → HasWrittenBy lane call handles more reply → AreAllHome lane more then after
+        → reply ≢ Err put_fault.Full
+        → HasTriedOnAs call lane of before after (tried_of reply)
+    goes-with-all more after reply wrote home room = by reply with-all room
+      where
+        back : home.0 ≡ wrote.new
+        back =
+            sym (same-in wrote.new home.0
+            (sym (set-at handles lane wrote.new wrote.old wrote.was)
+            ∙ ap (λ l. slice_get l lane) (sym wrote.is) ∙ home.1))
+
+        with-all : HasTriedWithAll call lane of before after reply
+        with-all = record {
+          handles = handles;
+          then = then;
+          taken = taken;
+          there = wrote.old;
+          back = wrote.new;
+          own = wrote.was;
+          account = home.2 ∙ ap (λ h. gave h then) back;
+          done = wrote.wrote;
+        }
+
+        by :
+            (reply : Result Reply PutFault) → HasTriedWithAll call lane of before after reply
+            → reply ≢ Err put_fault.Full
+            → HasTriedOnAs call lane of before after (tried_of reply)
+        by (Ok reply) tried room = WithAll tried room (Done (λ none. none))
+        by (Err put_fault.ValueRange) tried room = WithAll tried room (Done (λ none. none))
+        by (Err put_fault.Full) tried room = absurd (room refl)
+        by (Err put_fault.Contended) tried room = λ outcome next last made try on.
+            WithAll tried room (Again try on)
