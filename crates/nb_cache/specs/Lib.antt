@@ -4,4 +4,5 @@ pub mod Crews
 pub mod Evicting
 pub mod Keys
 pub mod Pages
+pub mod Renewing
 pub mod Replies

@@ -14,6 +14,12 @@ use Rattle.nb_cache.specs.declared.pages.Page.{Page}
 use Rattle.nb_cache.specs.declared.trace.Action.TheVariants.{Get, Put, PutTooLarge}
 use Rattle.nb_cache.specs.declared.trace.Action.{Action}
 
+-- the same text under the same key, put by the same line
+pub record IsSamePage (page copy : Page) : Type 0 where
+  pub name : copy.name.items ≡ page.name.items
+  pub text : copy.text.items ≡ page.text.items
+  pub line : copy.line ≡ page.line
+
 -- the page's text, where it is this key's page
 abbrev pub text_for : Page → (name : List ℕ) → Option (List ℕ)
 text_for page name = if bytes_eq page.name.items name then Some page.text.items else None
@@ -23,11 +29,13 @@ abbrev pub text_found : Option (Where Page) → (name : List ℕ) → Option (Li
 text_found None name = None
 text_found (Some page) name = text_for page.value name
 
--- The map's put has put the page that was stored at the place, with the key and this text.
-pub record HasPutText (m : LongMapOf) (place : ℕ) (name text : List ℕ) (before after : SeatOf)
-    (stored : Stored Page) : Type 0 where
+-- The map's put has put the page that was stored at the place, with the key, this text, and the number
+-- of this line.
+pub record HasPutText (m : LongMapOf) (place : ℕ) (name text : List ℕ) (line : ℕ)
+    (before after : SeatOf) (stored : Stored Page) : Type 0 where
   pub name_is : stored.receipt.value.name.items ≡ name
   pub text_is : stored.receipt.value.text.items ≡ text
+  pub line_is : stored.receipt.value.line ≡ line
   pub wrote : HasPutValue m place want.Any stored.receipt.value before after (Ok stored)
 
 -- what is at the place is taken out by one call
@@ -46,10 +54,10 @@ pub record HasDropped (m : LongMapOf) (place : ℕ) (name : List ℕ) (before af
 
 -- What a line asks for is done at the place, where this page was stored, or found, or none.
 abbrev pub IsDone :
-    Action → LongMapOf → (place : ℕ) → (name : List ℕ) → (before after : SeatOf)
+    Action → LongMapOf → (place : ℕ) → (name : List ℕ) → (line : ℕ) → (before after : SeatOf)
     → (page : Option (Where Page)) → Type 0
-IsDone Get m place name before after page = HasGotValue m place before after (Ok page)
-IsDone (Put text) m place name before after page =
+IsDone Get m place name line before after page = HasGotValue m place before after (Ok page)
+IsDone (Put text) m place name line before after page =
     (stored : Stored Page) × (page ≡ Some stored.receipt)
-    × HasPutText m place name text.now before after stored
-IsDone PutTooLarge m place name before after page = HasDropped m place name before after page
+    × HasPutText m place name text.now line before after stored
+IsDone PutTooLarge m place name line before after page = HasDropped m place name before after page

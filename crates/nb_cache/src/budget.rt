@@ -1,5 +1,5 @@
 //! A bound on memory: what texts are counted for, and how much they may take.
-ghost use Rattle.std.specs.Prelude.{◌≡◌, ◌+◌, ◌-◌, ◌^◌, ◌<◌, ◌≤◌, ◌↔◌, IsTrue};
+ghost use Rattle.std.specs.Prelude.{◌≡◌, ◌+◌, ◌-◌, ◌/◌, ◌^◌, ◌<◌, ◌≤◌, ◌↔◌, IsTrue, min};
 ghost use Rattle.nb_cache.specs.Ages.{counted};
 
 use nb_core::MOST_KEYS;
@@ -49,14 +49,14 @@ impl Budget {
 
     /// Whether there is room for so much beside what is stored.
     pub(crate) fn has_room(self, stored: u64, coming: u64) -> bool
-        ensures { stored + coming < 2 ^ 64 → IsTrue result ↔ (stored + coming ≤ self.texts) }
+        ensures { IsTrue result ↔ (min (stored + coming) (2 ^ 64 - 1) ≤ self.texts) }
     {
         stored.saturating_add(coming) <= self.texts
     }
 
     /// How much stays at most where texts go.
     pub(crate) fn left(self) -> u64
-        ensures half { result + result ≤ self.texts }
+        ensures half { result ≡ self.texts / 2 }
         ensures small { result < 2 ^ 64 - 1 }
     {
         self.texts / 2

@@ -147,7 +147,7 @@ pub(crate) fn put<R: Wait>(
 ) -> Result<Stored<Page>, ProgramFault>
     ensures rest { KeepsRest handle.old handle.new }
     ensures put { IfOk result (HasPutText handle.old.map place key.entry.name.now text.now
-        handle.old.seat handle.new.seat) }
+        worker.old.line handle.old.seat handle.new.seat) }
 {
     let page = Page::new(alloc, key.name, text, worker.line)?;
     let count = page.age().count;

@@ -8,15 +8,29 @@ use crate::budget::{Age, count_of};
 use nb_core::{Num, OutOfMemory};
 use nb_lines::ProgramFault;
 use nb_long::{Found, Handle};
-use std::alloc::Global;
+use std::alloc::{AllocError, Global};
 
 /// A text under its key.
-#[derive(Clone, Drop)]
+#[derive(Drop)]
 pub(crate) struct Page {
     name: Vec<u8>,
     text: Vec<u8>,
     /// The number of the line that put it.
     line: u64,
+}
+
+impl Clone for Page {
+    ghost use Rattle.nb_cache.specs.Pages.{IsSamePage};
+
+    ghost is_clone = { IsSamePage };
+
+    fn clone(&self) -> Result<Page, AllocError> {
+        Ok(Page {
+            name: Vec::from_slice(*self.name.allocator(), self.name.as_slice())?,
+            text: Vec::from_slice(*self.text.allocator(), self.text.as_slice())?,
+            line: self.line,
+        })
+    }
 }
 
 impl Page {
@@ -27,7 +41,7 @@ impl Page {
         line: u64,
     ) -> Result<Page, OutOfMemory>
         ensures { IfOk result (λ page. (page.name.items ≡ name.now)
-            × (page.text.items ≡ text.now)) }
+            × (page.text.items ≡ text.now) × (page.line ≡ line)) }
     {
         Ok(Page {
             name: Vec::from_slice(alloc, name)?,

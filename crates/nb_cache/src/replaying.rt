@@ -1,16 +1,14 @@
 //! Replaying: workers that share a cache, each with keys of its own.
-ghost use Rattle.std.specs.Prelude.{◌≡◌, ℕ, IfOk};
+ghost use Rattle.std.specs.Prelude.{◌≡◌, ◌+◌, ◌%◌, ◌^◌, ℕ, IfOk};
 ghost use Rattle.nb_lines.specs.Keys.{number_at};
 ghost use Rattle.nb_long.specs.Handles.{IsWhole, KeepsRest};
 ghost use Rattle.nb_cache.specs.Pages.{IsDone};
 
-use crate::budget::Budget;
 use crate::calls::{Counts, Worker, get, put, put_too_large};
-use crate::evicting::{Evicted, evict};
 use crate::options::Plan;
 use crate::pages::Page;
 use crate::parsing::{Trace, parsed};
-use crate::renewing::{must_renew, renewed};
+use crate::renewing::renew_in_time;
 use crate::run::Run;
 use crate::stream::Stream;
 use crate::trace::{Action, Request};
@@ -101,58 +99,12 @@ where
             break;
         }
         let trace = parsed(rt, alloc, stream.block(), run.plan, run.lines)?;
-        renew_in_time(rt, alloc, run, &mut cache, trace.count)?;
+        let counts = run.counts();
+        renew_in_time(rt, alloc, run, &mut cache, counts, trace.count)?;
         cache = run.work(rt, alloc, cache, trace)?;
         run.write_replies(alloc, writer)?;
     }
     Ok(())
-}
-
-/// Makes the cache anew where it is time for that, before texts are put that are counted for so much.
-fn renew_in_time<R: Wait>(
-    rt: &R,
-    alloc: Global,
-    run: &mut Run,
-    cache: &mut Handle<Page>,
-    coming: u64,
-) -> Result<(), ProgramFault>
-    requires whole { IsWhole cache.old }
-    ensures whole { IsWhole cache.new }
-{
-    if let Some(budget) = run.plan.budget {
-        return make_room(rt, alloc, run, cache, budget, coming);
-    }
-    let Counts { puts, keys, .. } = run.counts();
-    if must_renew(puts.wrapping_sub(run.freed), keys) && renewed(rt, alloc, cache)? {
-        run.freed = puts.wrapping_sub(keys);
-    }
-    Ok(())
-}
-
-/// Makes the cache anew where it has no room for texts that are counted for so much: stale texts go,
-/// and of the others those that were put longest ago, until half of the room is left.
-fn make_room<R: Wait>(
-    rt: &R,
-    alloc: Global,
-    run: &mut Run,
-    cache: &mut Handle<Page>,
-    budget: Budget,
-    coming: u64,
-) -> Result<(), ProgramFault>
-    requires whole { IsWhole cache.old }
-    ensures whole { IsWhole cache.new }
-{
-    let Counts { stored, .. } = run.counts();
-    if budget.has_room(stored.wrapping_sub(run.freed_count), coming) {
-        return Ok(());
-    }
-    let Evicted { texts, left, .. } = evict(rt, alloc, cache, budget.left())?;
-    run.evicted = run.evicted.wrapping_add(texts);
-    run.freed_count = stored.wrapping_sub(left);
-    if renewed(rt, alloc, cache)? {
-        return Ok(());
-    }
-    Err(ProgramFault::OutOfMemory)
 }
 
 /// Replays the part of a block that is the worker's with this number, and keeps why it stopped early.
@@ -239,7 +191,7 @@ fn call<R: Wait>(
     ensures done { IfOk result (λ page. (place : ℕ)
         × (number_at place ≡ request.entry.key.number)
         × IsDone request.entry.action handle.old.map place request.entry.key.name.now
-        handle.old.seat handle.new.seat page) }
+        ((before + request.entry.line) % 2 ^ 64) handle.old.seat handle.new.seat page) }
 {
     let Request { key, line, action } = request;
     let place = key_of(key.number).unwrap();

@@ -7,6 +7,7 @@ use crate::calls::{Counts, Worker};
 use crate::options::Plan;
 use crate::pages::Page;
 use crate::parsing::Trace;
+use crate::renewing::Gone;
 use crate::replaying::{Block, replay_block};
 use crate::replies::Reply;
 use nb_core::OutOfMemory;
@@ -27,12 +28,8 @@ pub(crate) struct Run {
     pub(crate) plan: Plan,
     /// How many lines were read.
     pub(crate) lines: u64,
-    /// How many texts that were put were freed.
-    pub(crate) freed: u64,
-    /// What texts were counted for that were freed.
-    pub(crate) freed_count: u64,
-    /// How many texts went where others came.
-    pub(crate) evicted: u64,
+    /// What is gone of the cache.
+    pub(crate) gone: Gone,
 }
 
 impl Run {
@@ -45,9 +42,7 @@ impl Run {
             workers,
             plan,
             lines: 0,
-            freed: 0,
-            freed_count: 0,
-            evicted: 0,
+            gone: Gone::NOTHING,
         })
     }
 
@@ -93,13 +88,15 @@ impl Run {
     }
 
     /// What all workers counted.
-    pub(crate) fn counts(&mut self) -> Counts {
+    pub(crate) fn counts(&mut self) -> Counts
+        ensures { self.new ≡ record self.old { workers = self.new.workers } }
+    {
         let mut counts = Counts::NOTHING;
         for worker in self.workers.iter_mut() {
             counts = counts.with(worker.get_mut().counts);
         }
-        counts.keys = counts.keys.wrapping_sub(self.evicted);
-        counts.evicted = counts.evicted.wrapping_add(self.evicted);
+        counts.keys = counts.keys.wrapping_sub(self.gone.evicted);
+        counts.evicted = counts.evicted.wrapping_add(self.gone.evicted);
         counts
     }
 

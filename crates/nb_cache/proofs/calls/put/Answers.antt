@@ -13,6 +13,7 @@ returns-clause-put g c =
     record {
       name_is = ap (λ (page : Page). page.name.items) same ∙ c.in_ok-page.ensures.0;
       text_is = ap (λ (page : Page). page.text.items) same ∙ c.in_ok-page.ensures.1;
+      line_is = ap (λ (page : Page). page.line) same ∙ c.in_ok-page.ensures.2;
       wrote = subst (λ (page : Page). HasPutValue before.map c.args.place want.Any page before.seat
           c.put.new.self.seat (Ok stored)) (sym same) wrote;
     }

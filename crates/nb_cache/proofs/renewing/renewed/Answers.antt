@@ -1,18 +1,26 @@
+use Rattle.std.proofs.Common.{subst}
 use Rattle.nb_cache.proofs.CrewLemmas.{begun-whole, kept-whole}
+use Rattle.nb_cache.specs.Pages.{IsSamePage}
+use Rattle.nb_long.specs.NewStore.{HasRenewedStore}
 use Rattle.nb_cache.proofs.renewing.renewed.Goals as goal
-use Rattle.nb_cache.proofs.renewing.renewed.Goals.{in-Err-Full, in-Err-OutOfMemory, in-Err-Unshown, in-Ok}
 
-pub returns : goal.returns
-returns g c =
-    let before = c.args.cache.now in
-    let after = c.renew_store.new.self in
-    record {
-      whole = elim c.match-renew_store.branch [
-        | in-Ok w ↦ begun-whole _ after w.in-Ok.ensures.renewed.begun
-        | in-Err-OutOfMemory w ↦
-            kept-whole before after w.in-Err-OutOfMemory.ensures.kept c.requires.whole
-        | in-Err-Full w ↦ kept-whole before after w.in-Err-Full.ensures.kept c.requires.whole
-        | in-Err-Unshown w ↦
-            kept-whole before after w.in-Err-Unshown.ensures.kept c.requires.whole
-      ];
-    }
+pub returns-in-Ok-clause-whole : goal.returns-in-Ok-clause-whole
+returns-in-Ok-clause-whole g c =
+    begun-whole _ c.renew_store.new.self c.in-Ok.ensures.renewed.begun
+
+pub returns-in-Ok-clause-renewed : goal.returns-in-Ok-clause-renewed
+returns-in-Ok-clause-renewed g c =
+    subst (λ p. HasRenewedStore IsSamePage p c.args.cache.now c.renew_store.new.self c.in-Ok.renewed)
+    c.shape-shape.ensures c.in-Ok.ensures.renewed
+
+pub returns-in-Err-OutOfMemory-clause-whole : goal.returns-in-Err-OutOfMemory-clause-whole
+returns-in-Err-OutOfMemory-clause-whole g c =
+    kept-whole c.args.cache.now c.renew_store.new.self c.in-Err-OutOfMemory.ensures.kept c.requires.whole
+
+pub returns-in-Err-Full-clause-whole : goal.returns-in-Err-Full-clause-whole
+returns-in-Err-Full-clause-whole g c =
+    kept-whole c.args.cache.now c.renew_store.new.self c.in-Err-Full.ensures.kept c.requires.whole
+
+pub returns-in-Err-Unshown-clause-whole : goal.returns-in-Err-Unshown-clause-whole
+returns-in-Err-Unshown-clause-whole g c =
+    kept-whole c.args.cache.now c.renew_store.new.self c.in-Err-Unshown.ensures.kept c.requires.whole
