@@ -1,24 +1,23 @@
 -- Clues to lines, and the readers that found them.
-use Rattle.std.proofs.Common.{◌≡◌, ◌≢◌, ◌∙◌, ℕ, true, false, List, [], ◌∷◌, ◌++◌, All, Option, Some, ap, append-nil, append_assoc, map, refl, reverse, subst, subst₂, sym}
+use Rattle.std.proofs.Common.{◌≡◌, ◌≢◌, ◌∙◌, ℕ, true, false, List, [], ◌∷◌, ◌++◌, All, Option, Some, ap, append-nil, append_assoc, arith, length, length-append, map, refl, reverse, subst, subst₂, sym}
 use Rattle.std.specs.List.{AllZip}
 use Rattle.std.specs.Prelude.{Contains, slice_get}
-use Rattle.std.proofs.lemmas.List.{map-append, reverse-append}
+use Rattle.std.proofs.lemmas.List.{length-map, length-reverse, map-append, reverse-append}
 use Rattle.std.proofs.lemmas.List.Elements.{All-append, All-cons, All-head, All-nil, All-push, All-tail, All-weaker, Contains-append_left, Contains-append_right}
 use Rattle.nb_core.specs.Plans.{Plan}
 use Rattle.nb_map.proofs.Theorems.{asks_add_up, logs_add_up}
 use Rattle.nb_map.specs.Bulk.{read_as}
 use Rattle.nb_map.specs.Entries.{IsRead}
-use Rattle.nb_map.specs.Handles.{HandleOf, IsSameMap, KeepsRest, handle_on}
+use Rattle.nb_map.specs.Handles.{HandleOf, IsSameMap, IsWhole, KeepsRest, all_seats, handle_on, seats_of}
 use Rattle.nb_map.specs.Maps.{IsMine, MapOf, SeatOf}
 use Rattle.nb_map.specs.Promises.{HasGot}
 use Rattle.nb_texts.specs.Claims.{HasClaimedBy}
-use Rattle.nb_texts.specs.Clues.{AreCluesTo, AreFound, ArePartedFrom, HasOnlyLooked, IsClueTo}
+use Rattle.nb_texts.specs.Clues.{AreCluesTo, ArePartedFrom, HasOnlyLooked, HaveOnlyLooked, IsClueTo}
 use Rattle.nb_texts.specs.Entering.{HasEntered, HasNoRoomFor}
 use Rattle.nb_texts.specs.Hashes.{key_for}
 use Rattle.nb_texts.specs.Lines.{HaveGrownBy}
 use Rattle.nb_texts.specs.declared.clues.Clue.TheVariants.{Hash, Place}
 use Rattle.nb_texts.specs.declared.clues.Clue.{Clue}
-use Rattle.nb_texts.specs.declared.clues.Found.{Found}
 use Rattle.nb_texts.specs.declared.hashing.Hashing.{Hashing}
 use Rattle.nb_texts.proofs.FindingLemmas.{entered-none, entered-then, get-left, places-more}
 use Rattle.nb_texts.proofs.FullLemmas.{stopped-then}
@@ -95,25 +94,14 @@ looked-more before then after first second = record {
       second.claims earlier (first.claims earlier asked);
 }
 
--- what was found of two texts by some readers and by others was found of both by all
-pub found-both :
-    (hashing : Hashing) (texts lines front back : List (List ℕ)) (readers few others : List HandleOf)
-    (first second found : Found) → lines ≡ front ++ back → readers ≡ few ++ others
-    → AreFound hashing texts front few first → AreFound hashing texts back others second
-    → (found.clues.items ≡ first.clues.items ++ second.clues.items)
-    × (found.readers.items ≡ first.readers.items ++ second.readers.items)
-    → AreFound hashing texts lines readers found
-found-both hashing texts lines front back readers few others first second found parts split one two are =
-    record {
-      clues =
-          subst₂ (AreCluesTo hashing texts) (sym parts) (sym are.0)
-          (zip-append (IsClueTo hashing texts) front first.clues.items back second.clues.items
-          one.clues two.clues);
-      looked =
-          subst₂ (AllZip HasOnlyLooked) (sym split) (sym are.1)
-          (zip-append HasOnlyLooked few first.readers.items others second.readers.items one.looked
-          two.looked);
-    }
+-- clues to two texts, one behind the other, are clues to both
+pub clues-both :
+    (hashing : Hashing) (texts lines front back : List (List ℕ)) (first second all : List Clue)
+    → lines ≡ front ++ back → all ≡ first ++ second → AreCluesTo hashing texts front first
+    → AreCluesTo hashing texts back second → AreCluesTo hashing texts lines all
+clues-both hashing texts lines front back first second all parts are one two =
+    subst₂ (AreCluesTo hashing texts) (sym parts) (sym are)
+    (zip-append (IsClueTo hashing texts) front first back second one two)
 
 -- one more reader is parted from a handle
 pub parted-more :
@@ -135,6 +123,48 @@ parted-more before now next readers reader parted same last is =
           All-push (λ (handle : HandleOf). handle ≡ handle_on before.map handle.seat) readers reader
           parted.each (is ∙ ap (λ m. handle_on m reader.seat) same);
     }
+
+-- each reader has its own seat alone
+reader-seats :
+    (m : MapOf) (readers readers' : List HandleOf)
+    → All (λ (handle : HandleOf). handle ≡ handle_on m handle.seat) readers
+    → HaveOnlyLooked readers readers' → length (all_seats readers') ≡ length readers
+reader-seats m [] [] each looked = refl
+reader-seats m [] (r ∷ readers') each looked = absurd looked
+reader-seats m (r ∷ readers) [] each looked = absurd looked
+reader-seats m (r ∷ readers) (r' ∷ readers') each (here, rest) =
+    let P : HandleOf → Type 0 = λ handle. handle ≡ handle_on m handle.seat in
+    let alone : length r'.reserve ≡ 0
+    = ap length (here.rest.reserve ∙ ap (λ (handle : HandleOf). handle.reserve) (All-head P r readers each)) in
+    omega (
+      arith,
+      alone,
+      length-append (seats_of r') (all_seats readers'),
+      reader-seats m readers readers' (All-tail P r readers each) rest,
+    )
+
+-- so all seats are there
+pub parted-whole :
+    (before parted after : HandleOf) (readers readers' : List HandleOf) → IsWhole before
+    → IsSameMap before parted → ArePartedFrom before parted readers
+    → HaveOnlyLooked readers readers' → KeepsRest parted after
+    → length (after.seat ∷ after.reserve ++ all_seats readers') ≡ after.map.chain.shape.seats
+parted-whole before parted after readers readers' whole same from looked kept =
+    let seat : HandleOf → SeatOf = λ handle. handle.seat in
+    let seats : ℕ = length (reverse (map seat readers)) in
+    let many : seats ≡ length readers = length-reverse (map seat readers) ∙ length-map readers seat in
+    let shape : after.map.chain.shape.seats ≡ before.map.chain.shape.seats
+    = ap (λ (m : MapOf). m.chain.shape.seats) (kept.map ∙ same) in
+    omega (
+      arith,
+      whole,
+      shape,
+      many,
+      ap length from.seats ∙ length-append parted.reserve (reverse (map seat readers)),
+      ap length kept.reserve,
+      length-append after.reserve (all_seats readers'),
+      reader-seats before.map readers readers' from.each looked,
+    )
 
 -- the readers are of the map of a handle that is of the same one still
 pub readers-of :

@@ -10,7 +10,6 @@ use Rattle.nb_texts.specs.Claims.{HasClaimedBy}
 use Rattle.nb_texts.specs.Hashes.{hash_of}
 use Rattle.nb_texts.specs.declared.clues.Clue.TheVariants.{Hash, Place}
 use Rattle.nb_texts.specs.declared.clues.Clue.{Clue}
-use Rattle.nb_texts.specs.declared.clues.Found.{Found}
 use Rattle.nb_texts.specs.declared.hashing.Hashing.{Hashing}
 
 -- the clue to a line is right: the line is at this place among the texts, or has this hash
@@ -31,13 +30,11 @@ pub record HasOnlyLooked (before after : HandleOf) : Type 0 where
   pub logged : HasLogged before.seat after.seat made
   pub claims : HasClaimedBy before.map.chain.shape [] before.seat after.seat
 
+-- and so has each of these
+abbrev pub HaveOnlyLooked : (before after : List HandleOf) → Type 0
+HaveOnlyLooked = AllZip HasOnlyLooked
+
 -- These handles were parted from one: each has a seat of its reserve, the last one first.
 pub record ArePartedFrom (before after : HandleOf) (parted : List HandleOf) : Type 0 where
   pub seats : before.reserve ≡ after.reserve ++ reverse (map (λ handle. handle.seat) parted)
   pub each : All (λ handle. handle ≡ handle_on before.map handle.seat) parted
-
--- The clues to these lines are right, and the readers that found them have only looked.
-pub record AreFound (hashing : Hashing) (texts lines : List (List ℕ)) (readers : List HandleOf)
-    (found : Found) : Type 0 where
-  pub clues : AreCluesTo hashing texts lines found.clues.items
-  pub looked : AllZip HasOnlyLooked readers found.readers.items

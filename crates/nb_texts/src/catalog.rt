@@ -13,13 +13,13 @@ ghost use Rattle.nb_map.specs.Opening.{IsTooSmallFor};
 ghost use Rattle.nb_map.specs.Settling.{HaveSettled};
 ghost use Rattle.nb_texts.specs.Catalogs.{HaveClaimed, HaveOneLog, IsNoRoom};
 ghost use Rattle.nb_texts.specs.Claims.{HasClaimedBy};
-ghost use Rattle.nb_texts.specs.Clues.{AreCluesTo, ArePartedFrom, IsClueTo};
+ghost use Rattle.nb_texts.specs.Clues.{AreCluesTo, ArePartedFrom, HaveOnlyLooked, IsClueTo};
 ghost use Rattle.nb_texts.specs.Entering.{HasEntered, HasNoRoomFor};
 ghost use Rattle.nb_texts.specs.Hashes.{hash_of, key_for};
 ghost use Rattle.nb_texts.specs.Lines.{HaveGrownBy, lines_in, text_of_lines, with_new_lines};
 ghost use Rattle.nb_texts.specs.Memory.{bytes_to_make, shape_with_room, widened};
 
-use crate::clues::{Clue, Found, found_by};
+use crate::clues::{Clue, found_by};
 use crate::hashing::{Hashing, key_after};
 use crate::lines::split_line;
 use crate::memory::{Load, MemoryLimit, left_beside};
@@ -213,7 +213,8 @@ impl Catalog {
     /// Enters the lines of a block, in their order, and answers their places. Several workers hash
     /// them, and look them up; then one enters those that weren't found. For each line that isn't
     /// there yet the map needs room: it is full only where, with all of them, there are more lines
-    /// than it has room for. The lines that were there stay also where it is refused.
+    /// than it has room for. The lines that were there stay also where it is refused, and so do the
+    /// map and all its seats.
     pub fn enter<R: Threads + Sync + Wait>(
         &mut self,
         rt: &R,
@@ -227,23 +228,23 @@ impl Catalog {
             ≡ with_new_lines self.old.texts (lines_in block.now)) }
         ensures places { IfOk result (λ places. map (slice_get self.new.texts) places.items
             ≡ map Some (lines_in block.now)) }
-        ensures map { OnOk result (self.new.handle.map ≡ self.old.handle.map) }
+        ensures map { self.new.handle.map ≡ self.old.handle.map }
+        ensures whole { IsWhole self.new.handle }
         ensures grown { HaveGrownBy (lines_in block.now) self.old.texts self.new.texts }
         ensures errors { IfErr result IsNoRoom }
         ensures full { result ≡ Err fault.FullOfLines
             → self.old.room < length (with_new_lines self.old.texts (lines_in block.now)) }
     {
-        let readers = parted(alloc, &mut self.handle, readers_for(block.len(), workers))?;
-        let found = found_by(rt, alloc, &self.texts, self.hashing, readers, block)?;
-        let Found { clues, readers } = found;
-        let places = enter_lines(
+        let count = readers_for(block.len(), workers);
+        let mut readers = parted(alloc, &mut self.handle, count)?;
+        let places = enter_found(
             rt,
             alloc,
             &mut self.texts,
             &mut self.handle,
             self.hashing,
             block,
-            clues.as_slice(),
+            &mut readers,
         );
         gather(alloc, &mut self.handle, readers)?;
         places
@@ -337,43 +338,75 @@ fn readers_for(bytes: usize, workers: usize) -> usize {
 fn parted(alloc: Global, handle: &mut Handle, count: usize) -> Result<Vec<Handle>, OutOfMemory>
     ensures same { IsSameMap handle.old handle.new × (handle.new.seat ≡ handle.old.seat) }
     ensures parted { IfOk result (λ readers. ArePartedFrom handle.old handle.new readers.items) }
+    ensures refused { OnErr result (handle.new ≡ handle.old) }
 {
     let mut readers = Vec::with_capacity(alloc, count)?;
     for _ in 0..count {
         let Ok(reader) = handle.split() else {
             return Ok(readers);
         };
-        readers.push(reader)?;
+        readers.push_reserved(reader);
     }
     Ok(readers)
 }
 
-/// Takes the readers' seats into the reserve, and lets all seats know all calls.
+/// Takes the readers' seats into the reserve, with which all are there, and lets all seats know all
+/// calls.
 fn gather(alloc: Global, handle: &mut Handle, readers: Vec<Handle>) -> Result<(), OutOfMemory>
     requires one { All (λ reader. reader.map ≡ handle.old.map) readers.items }
+    requires all { length (handle.old.seat ∷ handle.old.reserve ++ all_seats readers.items)
+        ≡ handle.old.map.chain.shape.seats }
     ensures map { IsSameMap handle.old handle.new }
     ensures settled { OnOk result ((size : ℕ) × HaveSettled handle.old.map
         (handle.old.seat ∷ handle.old.reserve ++ all_seats readers.items)
         (seats_of handle.new) size) }
-    ensures whole { OnOk result (IsWhole handle.new) }
+    ensures whole { IsWhole handle.new }
 {
+    let _seats = handle.shape().seats();
     let Ok(()) = handle.join_all(readers) else {
-        return Err(OutOfMemory);
+        unreachable!();
     };
     settled(alloc, handle)
 }
 
 /// Lets all seats know all calls.
 fn settled(alloc: Global, handle: &mut Handle) -> Result<(), OutOfMemory>
+    requires whole { IsWhole handle.old }
     ensures map { IsSameMap handle.old handle.new }
     ensures settled { OnOk result ((size : ℕ) × HaveSettled handle.old.map (seats_of handle.old)
         (seats_of handle.new) size) }
-    ensures whole { OnOk result (IsWhole handle.new) }
+    ensures whole { IsWhole handle.new }
 {
     match handle.settle(alloc) {
         Ok(_size) => Ok(()),
         Err(_) => Err(OutOfMemory),
     }
+}
+
+/// Looks up the lines of a block by these readers, enters those that weren't found, and answers the
+/// places of all.
+fn enter_found<R: Threads + Sync + Wait>(
+    rt: &R,
+    alloc: Global,
+    texts: &mut Texts,
+    handle: &mut Handle,
+    hashing: Hashing,
+    block: &[u8],
+    readers: &mut Vec<Handle>,
+) -> Result<Vec<usize>, ProgramFault>
+    ensures looked { HaveOnlyLooked readers.old.items readers.new.items }
+    ensures rest { KeepsRest handle.old handle.new }
+    ensures entered { OnOk result (HasEntered handle.old.map.chain.shape (key_for hashing)
+        handle.old.seat handle.new.seat texts.old texts.new (lines_in block.now)) }
+    ensures full { result ≡ Err fault.FullOfLines → HasNoRoomFor handle.old.map.chain.shape
+        (key_for hashing) handle.old.seat handle.new.seat texts.old (lines_in block.now) }
+    ensures grown { HaveGrownBy (lines_in block.now) texts.old texts.new }
+    ensures places { IfOk result (λ places. map (slice_get texts.new) places.items
+        ≡ map Some (lines_in block.now)) }
+    ensures errors { IfErr result IsNoRoom }
+{
+    let clues = found_by(rt, alloc, texts, hashing, block, readers.as_mut_slice())?;
+    enter_lines(rt, alloc, texts, handle, hashing, block, clues.as_slice())
 }
 
 /// Enters the lines of a block, to which these are clues, one after another, and answers their

@@ -1,7 +1,7 @@
 //! What is known of a block's lines before they are entered, found by several threads.
 ghost use Rattle.std.specs.Prelude.{◌≡◌, ◌≤◌, ◌++◌, IfOk, length};
 ghost use Rattle.std.specs.Thread.{IsSync};
-ghost use Rattle.nb_texts.specs.Clues.{AreCluesTo, AreFound, HasOnlyLooked, IsClueTo};
+ghost use Rattle.nb_texts.specs.Clues.{AreCluesTo, HasOnlyLooked, HaveOnlyLooked, IsClueTo};
 ghost use Rattle.nb_texts.specs.Lines.{lines_in};
 
 use crate::hashing::{Hashing, key_after};
@@ -22,29 +22,24 @@ pub(crate) enum Clue {
     Hash(u64),
 }
 
-/// Clues to the lines of a text, and the readers of the map that found them.
-#[derive(Drop)]
-pub(crate) struct Found {
-    pub(crate) clues: Vec<Clue>,
-    pub(crate) readers: Vec<Handle>,
-}
-
-/// A clue to each line, by as many threads as there are readers, or by none: its hash.
+/// A clue to each line, by as many threads as there are readers, or by none: its hash. The readers stay
+/// with the caller, also where it is refused.
 pub(crate) fn found_by<R: Threads + Sync>(
     rt: &R,
     alloc: Global,
     texts: &Texts,
     hashing: Hashing,
-    readers: Vec<Handle>,
     text: &[u8],
-) -> Result<Found, OutOfMemory>
-    ensures { IfOk result (AreFound hashing texts.now (lines_in text.now) readers.items) }
+    readers: &mut [Handle],
+) -> Result<Vec<Clue>, OutOfMemory>
+    ensures clues { IfOk result (λ clues.
+        AreCluesTo hashing texts.now (lines_in text.now) clues.items) }
+    ensures looked { HaveOnlyLooked readers.old readers.new }
 {
     if readers.is_empty() {
-        let clues = hashes_of(alloc, texts, hashing, text)?;
-        return Ok(Found { clues, readers });
+        return hashes_of(alloc, texts, hashing, text);
     }
-    found_by_all(rt, alloc, texts, hashing, readers, text)
+    found_by_all(rt, alloc, texts, hashing, text, readers)
 }
 
 /// The hash of each line.
@@ -74,68 +69,45 @@ fn found_by_all<R: Threads + Sync>(
     alloc: Global,
     texts: &Texts,
     hashing: Hashing,
-    readers: Vec<Handle>,
     text: &[u8],
-) -> Result<Found, OutOfMemory>
-    requires some { 1 ≤ length readers.items }
-    ensures { IfOk result (AreFound hashing texts.now (lines_in text.now) readers.items) }
+    readers: &mut [Handle],
+) -> Result<Vec<Clue>, OutOfMemory>
+    requires some { 1 ≤ length readers.old }
+    ensures clues { IfOk result (λ clues.
+        AreCluesTo hashing texts.now (lines_in text.now) clues.items) }
+    ensures looked { HaveOnlyLooked readers.old readers.new }
 {
     let count = readers.len();
     if count < 2 {
-        return found_by_one(alloc, texts, hashing, readers, text);
+        return looked_up(alloc, texts, hashing, text, &mut readers[0]);
     }
-    let mut readers = readers;
-    let others = readers.split_off(count / 2)?;
     let (front, back) = split_text(text, text.len() / 2);
-    let (first, second) = thread::join(
+    let (few, others) = readers.split_at_mut(count / 2);
+    let (first, second) = thread::join_mut(
         rt,
-        move || -> Result<Found, OutOfMemory>
-            requires { IsSync R.row × (1 ≤ length readers.items) }
-            ensures { IfOk result (AreFound hashing texts.entry.now (lines_in front.entry.now)
-                readers.items) }
-        { found_by_all(rt, alloc, texts, hashing, readers, front) },
-        move || -> Result<Found, OutOfMemory>
-            requires { IsSync R.row × (1 ≤ length others.items) }
-            ensures { IfOk result (AreFound hashing texts.entry.now (lines_in back.entry.now)
-                others.items) }
-        { found_by_all(rt, alloc, texts, hashing, others, back) },
+        &mut || -> Result<Vec<Clue>, OutOfMemory>
+            requires { IsSync R.row × (1 ≤ length few.now) }
+            ensures { IfOk result (λ clues. AreCluesTo hashing texts.entry.now
+                (lines_in front.entry.now) clues.items)
+                × HaveOnlyLooked few.entry.now few.exit.now }
+        { found_by_all(rt, alloc, texts, hashing, front, few) },
+        &mut || -> Result<Vec<Clue>, OutOfMemory>
+            requires { IsSync R.row × (1 ≤ length others.now) }
+            ensures { IfOk result (λ clues. AreCluesTo hashing texts.entry.now
+                (lines_in back.entry.now) clues.items)
+                × HaveOnlyLooked others.entry.now others.exit.now }
+        { found_by_all(rt, alloc, texts, hashing, back, others) },
     );
     both(first?, second?)
 }
 
-/// What was found of two texts, one behind the other.
-fn both(first: Found, second: Found) -> Result<Found, OutOfMemory>
-    ensures { IfOk result (λ found. (found.clues.items ≡ first.clues.items ++ second.clues.items)
-        × (found.readers.items ≡ first.readers.items ++ second.readers.items)) }
+/// Clues to the lines of two texts, one behind the other.
+fn both(first: Vec<Clue>, second: Vec<Clue>) -> Result<Vec<Clue>, OutOfMemory>
+    ensures { IfOk result (λ clues. clues.items ≡ first.items ++ second.items) }
 {
-    let Found {
-        mut clues,
-        mut readers,
-    } = first;
-    clues.extend_from_slice(second.clues.as_slice())?;
-    let mut others = second.readers;
-    readers.append(&mut others)?;
-    Ok(Found { clues, readers })
-}
-
-/// A clue to each line, by one reader.
-fn found_by_one(
-    alloc: Global,
-    texts: &Texts,
-    hashing: Hashing,
-    readers: Vec<Handle>,
-    text: &[u8],
-) -> Result<Found, OutOfMemory>
-    requires one { length readers.items ≡ 1 }
-    ensures { IfOk result (AreFound hashing texts.now (lines_in text.now) readers.items) }
-{
-    let mut readers = readers;
-    let Some(mut reader) = readers.pop() else {
-        unreachable!();
-    };
-    let clues = looked_up(alloc, texts, hashing, &mut reader, text)?;
-    readers.push_reserved(reader);
-    Ok(Found { clues, readers })
+    let mut clues = first;
+    clues.extend_from_slice(second.as_slice())?;
+    Ok(clues)
 }
 
 /// A clue to each line: its place, where the reader finds it at the first key for it, or its hash.
@@ -143,8 +115,8 @@ fn looked_up(
     alloc: Global,
     texts: &Texts,
     hashing: Hashing,
-    reader: &mut Handle,
     text: &[u8],
+    reader: &mut Handle,
 ) -> Result<Vec<Clue>, OutOfMemory>
     ensures clues { IfOk result (λ clues.
         AreCluesTo hashing texts.now (lines_in text.now) clues.items) }

@@ -4,7 +4,7 @@ use Rattle.nb_core.specs.Plans.{HasRoomFor}
 use Rattle.nb_map.specs.Handles.{seats_of}
 use Rattle.nb_map.specs.Maps.{MapOf}
 use Rattle.nb_map.specs.OneSeat.{held}
-use Rattle.nb_texts.proofs.ClueLemmas.{readers-of}
+use Rattle.nb_texts.proofs.ClueLemmas.{parted-whole, readers-of}
 use Rattle.nb_texts.proofs.LinesLemmas.{grown-none}
 use Rattle.nb_texts.proofs.RestLemmas.{entered-gathered, gathered-claims, gathered-from, stopped-gathered}
 use Rattle.nb_texts.specs.Claims.{ClaimsOnly}
@@ -14,34 +14,42 @@ use Rattle.nb_texts.specs.Lines.{lines_in}
 use Rattle.nb_texts.proofs.catalog.Catalog.enter.Goals as goal
 
 pub gather-requires : goal.gather-requires
-gather-requires g c = record {
-  one =
-      readers-of c.args.self.now.handle c.parted.new.handle c.enter_lines-places.new.handle
-      c.in_ok-readers.readers.items c.in_ok-found.found.readers.items
-      c.in_ok-readers.ensures.parted c.in_ok-found.ensures.looked
-      (c.enter_lines-places.ensures.rest.map ∙ c.parted.ensures.same.0);
-}
+gather-requires g c =
+    let before = c.args.self.now.handle in
+    let parted = c.parted.new.handle in
+    let after = c.enter_found-places.new.handle in
+    let readers = c.in_ok-readers.readers.items in
+    let readers' = c.enter_found-places.new.readers.items in
+    let looked = c.enter_found-places.ensures.looked in
+    let from = c.in_ok-readers.ensures.parted in
+    let same = c.parted.ensures.same.0 in
+    let rest = c.enter_found-places.ensures.rest in
+    record {
+      one = readers-of before parted after readers readers' from looked (rest.map ∙ same);
+      all = parted-whole before parted after readers readers' c.requires.rest.whole same from looked rest;
+    }
 
 pub returns-clause-rest : goal.returns-clause-rest
 returns-clause-rest g c =
+    let looked = c.enter_found-places.ensures.looked in
     let before = c.args.self.now in
     let at_rest = c.requires.rest in
     let parted = c.parted.new.handle in
-    let after = c.enter_lines-places.new.handle in
+    let after = c.enter_found-places.new.handle in
     let last = c.gather.new.handle in
     let keys = key_for before.hashing in
-    let texts' = c.enter_lines-places.new.texts in
+    let texts' = c.enter_found-places.new.texts in
     let lines = lines_in c.args.block.now in
     let settled = c.in_ok-gather.ensures.settled in
-    let kept = c.enter_lines-places.ensures.rest in
+    let kept = c.enter_found-places.ensures.rest in
     let same : last.map ≡ before.handle.map
     = c.in_ok-gather.ensures.map ∙ kept.map ∙ c.parted.ensures.same.0 in
-    on_ok_weaker c.enter_lines-places.result (λ entering.
+    on_ok_weaker c.enter_found-places.result (λ entering.
     let entered = subst (λ (m : MapOf). HasEntered m.chain.shape keys parted.seat after.seat
     before.texts texts' lines) c.parted.ensures.same.0 entering in
     let done = gathered-from before.handle parted after last c.in_ok-readers.readers.items
-    c.in_ok-found.found.readers.items settled.0 entered.made c.parted.ensures.same
-    c.in_ok-readers.ensures.parted c.in_ok-found.ensures.looked kept entered.logged settled.1 in
+    c.enter_found-places.new.readers.items settled.0 entered.made c.parted.ensures.same
+    c.in_ok-readers.ensures.parted looked kept entered.logged settled.1 in
     let all = entered-gathered keys before.handle last before.texts texts' lines at_rest.logs
     parted.seat after.seat entered done at_rest.index in
     let claims = gathered-claims entered.made before.handle last at_rest.logs done entered.puts
@@ -56,63 +64,63 @@ returns-clause-rest g c =
       room =
           subst (λ (m : MapOf). HasRoomFor m.chain.shape before.room) (sym same) at_rest.room;
       most = at_rest.most;
-    }) c.enter_lines-places.ensures.entered
+    }) c.enter_found-places.ensures.entered
 
 pub returns-clause-lines : goal.returns-clause-lines
 returns-clause-lines g c =
+    let looked = c.enter_found-places.ensures.looked in
     let before = c.args.self.now in
     let at_rest = c.requires.rest in
     let parted = c.parted.new.handle in
-    let after = c.enter_lines-places.new.handle in
+    let after = c.enter_found-places.new.handle in
     let last = c.gather.new.handle in
     let keys = key_for before.hashing in
-    let texts' = c.enter_lines-places.new.texts in
+    let texts' = c.enter_found-places.new.texts in
     let lines = lines_in c.args.block.now in
     let settled = c.in_ok-gather.ensures.settled in
-    on_ok_weaker c.enter_lines-places.result (λ entering.
+    on_ok_weaker c.enter_found-places.result (λ entering.
     let entered = subst (λ (m : MapOf). HasEntered m.chain.shape keys parted.seat after.seat
     before.texts texts' lines) c.parted.ensures.same.0 entering in
     let done = gathered-from before.handle parted after last c.in_ok-readers.readers.items
-    c.in_ok-found.found.readers.items settled.0 entered.made c.parted.ensures.same
-    c.in_ok-readers.ensures.parted c.in_ok-found.ensures.looked c.enter_lines-places.ensures.rest
+    c.enter_found-places.new.readers.items settled.0 entered.made c.parted.ensures.same
+    c.in_ok-readers.ensures.parted looked c.enter_found-places.ensures.rest
     entered.logged settled.1 in
     let all = entered-gathered keys before.handle last before.texts texts' lines at_rest.logs
     parted.seat after.seat entered done at_rest.index in
-    all.2) c.enter_lines-places.ensures.entered
+    all.2) c.enter_found-places.ensures.entered
 
 pub returns-clause-map : goal.returns-clause-map
 returns-clause-map g c =
-    on_ok_weaker c.enter_lines-places.result (λ entered.
-    c.in_ok-gather.ensures.map ∙ c.enter_lines-places.ensures.rest.map ∙ c.parted.ensures.same.0)
-    c.enter_lines-places.ensures.entered
+    c.in_ok-gather.ensures.map ∙ c.enter_found-places.ensures.rest.map ∙ c.parted.ensures.same.0
+
+pub returns-in_err-gather-clause-map : goal.returns-in_err-gather-clause-map
+returns-in_err-gather-clause-map g c =
+    c.in_err-gather.ensures.map ∙ c.enter_found-places.ensures.rest.map ∙ c.parted.ensures.same.0
 
 pub returns-clause-full : goal.returns-clause-full
 returns-clause-full g c = λ is.
+    let looked = c.enter_found-places.ensures.looked in
     let before = c.args.self.now in
     let at_rest = c.requires.rest in
     let parted = c.parted.new.handle in
-    let after = c.enter_lines-places.new.handle in
+    let after = c.enter_found-places.new.handle in
     let last = c.gather.new.handle in
     let keys = key_for before.hashing in
     let lines = lines_in c.args.block.now in
     let settled = c.in_ok-gather.ensures.settled in
     let stopped = subst (λ (m : MapOf). HasNoRoomFor m.chain.shape keys parted.seat after.seat
-    before.texts lines) c.parted.ensures.same.0 (c.enter_lines-places.ensures.full is) in
+    before.texts lines) c.parted.ensures.same.0 (c.enter_found-places.ensures.full is) in
     stopped-gathered keys before.handle last before.texts lines before.room at_rest.logs parted.seat
     after.seat stopped
     (λ made logged. (
       gathered-from before.handle parted after last c.in_ok-readers.readers.items
-          c.in_ok-found.found.readers.items settled.0 made c.parted.ensures.same
-          c.in_ok-readers.ensures.parted c.in_ok-found.ensures.looked
-          c.enter_lines-places.ensures.rest logged settled.1,
+          c.enter_found-places.new.readers.items settled.0 made c.parted.ensures.same
+          c.in_ok-readers.ensures.parted looked
+          c.enter_found-places.ensures.rest logged settled.1,
       refl,
       refl,
     )) at_rest.index at_rest.claims at_rest.room at_rest.most
 
 pub returns-in_err-readers-clause-grown : goal.returns-in_err-readers-clause-grown
 returns-in_err-readers-clause-grown g c =
-    grown-none (lines_in c.args.block.now) c.args.self.now.texts c.args.self.now.texts refl
-
-pub returns-in_err-found-clause-grown : goal.returns-in_err-found-clause-grown
-returns-in_err-found-clause-grown g c =
     grown-none (lines_in c.args.block.now) c.args.self.now.texts c.args.self.now.texts refl
