@@ -136,11 +136,8 @@ limited column (Some limit) known now next taken texts counts rest rest' block c
     (λ input. MayNotFit column limit input taken catalog)
     (λ input next. record {
       block = block;
-      is_block = one;
-      rest = next.0;
-      next = next.1;
       counted = counted;
-      are = are;
+      comes = record { is_block = one; rest = next.0; next = next.1; are = are };
       over = over-with limit catalog load counted many bytes fits;
     })
     (reading-next known now next under.lines rest rest' block some taken under.many under.reading cut)

@@ -1,14 +1,18 @@
 -- What is counted of an input if the rarest lines are forgotten.
-use Rattle.std.specs.Prelude.{◌≡◌, ◌/◌, ◌≤◌, ◌++◌, ℕ, List, None, Option, Some, drop, length, max, min, take}
+use Rattle.std.specs.Prelude.{◌≡◌, ◌+◌, ◌*◌, ◌-◌, ◌/◌, ◌^◌, ◌≤◌, ◌++◌, ℕ, false, IfSome, List, [], None, Option, Some, length, max, min, take}
+use Rattle.nb_core.specs.declared.shapes.TheConstants.{MOST_KEYS}
 use Rattle.nb_texts.specs.Catalogs.{IsAtRest}
-use Rattle.nb_texts.specs.Forgetting.{AreLines, FitsAlone, IsTallyOfSome, IsTallyWithin}
+use Rattle.nb_texts.specs.Forgetting.{AreLines, FitsAlone, IsMiddle, IsTallyOfSome, IsTallyWithin, lines_above}
 use Rattle.nb_texts.specs.Lines.{lines_in}
-use Rattle.nb_texts.specs.Memory.{ahead_under, load_of}
-use Rattle.nb_texts.specs.Sources.{IsBlock}
+use Rattle.nb_texts.specs.Memory.{TellsWhetherFits, ahead_under, load_of, room_at_first, shape_with_room}
+use Rattle.nb_texts.specs.Tallies.{IsTally}
 use Rattle.nb_texts.specs.declared.catalog.Catalog.{Catalog}
+use Rattle.nb_texts.specs.declared.memory.Load.{Load}
 use Rattle.nb_texts.specs.declared.memory.MemoryLimit.{MemoryLimit}
 use Rattle.nb_tally.specs.Fields.{counted_of}
+use Rattle.nb_tally.specs.Limits.{ComesNext}
 use Rattle.nb_tally.specs.declared.fields.Column.{Column}
+use Rattle.nb_tally.specs.declared.lines_forgotten.Missed.{Missed}
 use Rattle.nb_tally.specs.declared.lines_forgotten.RoughTally.{RoughTally}
 use Rattle.nb_tally.specs.declared.lines_forgotten.TheConstants.{BYTES_OF_BLOCK}
 
@@ -43,9 +47,72 @@ ahead_finer (Some limit) = max (min (ahead_under (Some limit)) (limit.bytes / BY
 pub record FitsNever (column : Option Column) (limit : MemoryLimit) (input : List ℕ) (lines : ℕ)
     (catalog : Catalog) : Type 0 where
   pub block : List ℕ
-  pub is_block : IsBlock (ahead_finer (Some limit)) block
-  pub rest : List ℕ
-  pub next : drop lines (lines_in input) ≡ lines_in block ++ lines_in rest
   pub counted : List ℕ
-  pub are : lines_in counted ≡ counted_of column (lines_in block)
+  pub comes : ComesNext column (ahead_finer (Some limit)) input lines block counted
   pub over : FitsAlone limit catalog (load_of counted) → ⊥
+
+-- the map has room for so many lines, or for as many as any map can have
+abbrev pub HasRoomForLines : (lines : ℕ) → Catalog → Type 0
+HasRoomForLines lines catalog = min lines MOST_KEYS ≤ catalog.room
+
+-- ---- how a tally came about
+
+-- the lines, the counts and what is missed are the same
+pub record IsAlike (before after : RoughTally) : Type 0 where
+  pub texts : after.tally.catalog.texts ≡ before.tally.catalog.texts
+  pub counts : after.tally.counts.items ≡ before.tally.counts.items
+  pub missed : after.missed ≡ before.missed
+
+-- these lines were counted, too
+pub record HasTalliedMore (lines : List (List ℕ)) (before after : RoughTally) : Type 0 where
+  pub tally :
+      (all : List (List ℕ)) → IsTally all before.tally.catalog.texts before.tally.counts.items
+      → IsTally (all ++ lines) after.tally.catalog.texts after.tally.counts.items
+  pub missed : after.missed ≡ before.missed
+
+-- once more lines were cut off, which may have come so often
+abbrev pub with_cut : (cut : ℕ) → Missed → Missed
+with_cut cut missed =
+    record { times = missed.times + cut; cuts = min (missed.cuts + 1) (2 ^ 64 - 1) }
+
+-- those lines alone were kept that came more often than the middle one
+pub record HasForgotten (before after : RoughTally) : Type 0 where
+  pub cut : ℕ
+  pub middle : IsMiddle before.tally.counts.items cut
+  pub tally :
+      (all : List (List ℕ)) → IsTally all before.tally.catalog.texts before.tally.counts.items
+      → IsTally (lines_above cut all) after.tally.catalog.texts after.tally.counts.items
+  pub missed : after.missed ≡ with_cut cut before.missed
+
+-- the map was made for so many lines, or as many as at first, or for fewer
+pub record IsNarrow (limit : Option MemoryLimit) (most : ℕ) (catalog : Catalog) : Type 0 where
+  pub made : catalog.handle.map.chain.shape ≡ shape_with_room catalog.room
+  pub room : IfSome limit (λ limit. catalog.room ≤ max (room_at_first limit) most)
+
+-- To make room for a block lines were cut off, as often as need be: each time because the block might
+-- not fit within the limit beside those that were kept, and a map for so many.
+pub data HasCutFor (limit : Option MemoryLimit) (most : ℕ) (block : Load) (before : RoughTally) :
+    RoughTally → Type 0 where
+  Never : {after : RoughTally} → IsAlike before after → HasCutFor limit most block before after
+  Again :
+      {then after : RoughTally} → HasCutFor limit most block before then
+      → IsNarrow limit most then.tally.catalog
+      → TellsWhetherFits limit then.tally.catalog block false → HasForgotten then after
+      → HasCutFor limit most block before after
+
+-- How so many lines of the input were counted, from the first one on: block after block, for each of
+-- which room was made before. The map was made for twice as many lines as there were with a block.
+pub data HasTallied (limit : Option MemoryLimit) (column : Option Column) (input : List ℕ) :
+    (lines most : ℕ) → RoughTally → Type 0 where
+  Begun :
+      {rough : RoughTally} → rough.tally.catalog.texts ≡ [] → rough.tally.counts.items ≡ []
+      → rough.missed ≡ record { times = 0; cuts = 0 } → HasTallied limit column input 0 0 rough
+  Entered :
+      {lines lines' most most' : ℕ} {before then after : RoughTally}
+      → HasTallied limit column input lines most before → (block counted : List ℕ)
+      → ComesNext column (ahead_finer limit) input lines block counted
+      → lines' ≡ lines + length (lines_in block)
+      → most' ≡ max most (2 * (length before.tally.catalog.texts + length (lines_in block)))
+      → HasCutFor limit most (load_of counted) before then
+      → HasTalliedMore (lines_in counted) then after
+      → HasTallied limit column input lines' most' after

@@ -1,11 +1,16 @@
 //! Lines, counted within a limit of memory: where some don't fit, the rarest ones are forgotten.
 ghost use Rattle.std.specs.Bool.{OnFalse, OnTrue};
-ghost use Rattle.std.specs.Prelude.{◌≡◌, ◌+◌, ◌^◌, ◌≤◌, ◌++◌, ◌⊎◌, ℕ, IfOk, IfSome, IsTrue, List, OnErr, OnOk, false, true};
-ghost use Rattle.nb_texts.specs.Forgetting.{AreBounds, FitsAlone, IsMiddle};
-ghost use Rattle.nb_texts.specs.Lines.{lines_in, with_new_lines};
+ghost use Rattle.std.specs.Prelude.{◌≡◌, ◌+◌, ◌*◌, ◌^◌, ◌<◌, ◌≤◌, ◌++◌, ◌⊎◌, ℕ, IfErr, IfOk, IfSome, IsOkUnless, IsTrue, List, None, OnErr, OnOk, false, length, max, min, true};
+ghost use Rattle.nb_core.specs.declared.shapes.TheConstants.{MOST_KEYS};
+ghost use Rattle.nb_lines.specs.declared.faults.ProgramFault.TheVariants as fault;
+ghost use Rattle.nb_texts.specs.Catalogs.{IsNoRoom};
+ghost use Rattle.nb_texts.specs.Forgetting.{AreBounds, FitsAlone};
+ghost use Rattle.nb_texts.specs.Lines.{distinct, lines_in, with_new_lines};
 ghost use Rattle.nb_texts.specs.Memory.{KeepsTo, TellsWhetherFits};
+ghost use Rattle.nb_texts.specs.Sources.{IsReadFault};
+ghost use Rattle.nb_texts.specs.Tallies.{ComesTooOften, IsTally};
 ghost use Rattle.nb_tally.specs.Fields.{counted_of};
-ghost use Rattle.nb_tally.specs.Forgotten.{CanForget, FitsNever, KeepsTold, Tells, TellsFirst, ahead_finer};
+ghost use Rattle.nb_tally.specs.Forgotten.{CanForget, FitsNever, HasTalliedMore, HasForgotten, HasCutFor, HasRoomForLines, HasTallied, IsAlike, IsNarrow, KeepsTold, Tells, TellsFirst, ahead_finer, with_cut};
 
 use crate::fields::{Column, counted_in};
 use nb_lines::{Done, ProgramFault};
@@ -32,8 +37,9 @@ impl Missed {
 
     /// Lines that came no more often than this were forgotten.
     fn with(self, cut: u64) -> Result<Missed, ProgramFault>
-        ensures times { IfOk result (λ missed. missed.times ≡ self.times + cut) }
+        ensures more { IfOk result (λ missed. missed ≡ with_cut cut self) }
         ensures range { OnErr result (2 ^ 64 ≤ self.times + cut) }
+        ensures errors { IsOkUnless result fault.TooOften }
     {
         match self.times.checked_add(cut) {
             Some(times) => Ok(Missed {
@@ -65,11 +71,18 @@ impl RoughTally {
         ensures ready { OnOk result (CanForget self.new) }
         ensures told { OnOk result ((lines : List (List ℕ)) → Tells self.old lines
             → Tells self.new (lines ++ lines_in block.now)) }
+        ensures counted { OnOk result (HasTalliedMore (lines_in block.now) self.old self.new) }
         ensures texts { OnOk result (self.new.tally.catalog.texts
             ≡ with_new_lines self.old.tally.catalog.texts (lines_in block.now)) }
         ensures map { OnOk result (self.new.tally.catalog.handle.map
             ≡ self.old.tally.catalog.handle.map) }
+        ensures room { self.new.tally.catalog.room ≡ self.old.tally.catalog.room }
         ensures missed { self.new.missed ≡ self.old.missed }
+        ensures errors { IfErr result (λ told. IsNoRoom told ⊎ (told ≡ fault.TooOften)) }
+        ensures full { result ≡ Err fault.FullOfLines → self.old.tally.catalog.room
+            < length (with_new_lines self.old.tally.catalog.texts (lines_in block.now)) }
+        ensures often { result ≡ Err fault.TooOften → (lines : List (List ℕ))
+            → Tells self.old lines → 2 ^ 64 ≤ length (lines ++ lines_in block.now) }
     {
         self.tally.enter(rt, alloc, block, workers)?;
         Ok(())
@@ -85,8 +98,16 @@ impl RoughTally {
         requires ready { CanForget self }
         ensures ready { IfOk result CanForget }
         ensures told { IfOk result (KeepsTold self) }
-        ensures cut { IfOk result (λ rough. (cut : ℕ) × IsMiddle self.tally.counts.items cut
-            × (rough.missed.times ≡ self.missed.times + cut)) }
+        ensures cut { IfOk result (HasForgotten self) }
+        ensures room { IfOk result (λ rough.
+            rough.tally.catalog.room ≡ min self.tally.catalog.room MOST_KEYS) }
+        ensures half { IfOk result (λ rough.
+            2 * length rough.tally.catalog.texts ≤ length self.tally.catalog.texts) }
+        ensures errors { IfErr result (λ told. IsNoRoom told ⊎ (told ≡ fault.TooOften)) }
+        ensures full { result ≡ Err fault.FullOfLines
+            → min self.tally.catalog.room MOST_KEYS < length self.tally.catalog.texts }
+        ensures often { result ≡ Err fault.TooOften → (lines : List (List ℕ))
+            → Tells self lines → 2 ^ 64 ≤ length lines }
     {
         let RoughTally { tally, missed } = self;
         let Forgotten { tally, cut } = tally.forget(rt, alloc, plan)?;
@@ -118,19 +139,33 @@ fn make_room<R: Threads + Sync + Wait>(
         (TellsWhetherFits plan.limit offer.made.tally.catalog block true)) }
     ensures back { IfOk result (λ offer. OnFalse offer.fits
         (offer.made.tally.catalog ≡ rough.tally.catalog)) }
+    ensures alike { IfOk result (λ offer. OnFalse offer.fits (IsAlike rough offer.made)) }
     ensures never { IfOk result (λ offer. OnFalse offer.fits
         (IfSome plan.limit (λ limit. FitsAlone limit rough.tally.catalog block → ⊥))) }
-    ensures needed { IfOk result (λ offer. (offer.made.missed ≡ rough.missed)
+    ensures needed { IfOk result (λ offer. (offer.fits ≡ true) × (offer.made.missed ≡ rough.missed)
         ⊎ TellsWhetherFits plan.limit rough.tally.catalog block false) }
+    ensures made { IfOk result (λ offer. (most : ℕ) → IsNarrow plan.limit most rough.tally.catalog
+        → HasCutFor plan.limit most block rough offer.made) }
+    ensures wide { IfOk result (λ offer. offer.made.tally.catalog.room
+        ≤ max rough.tally.catalog.room (2 * (length rough.tally.catalog.texts + block.lines))) }
+    ensures room { IfOk result (λ offer. OnTrue offer.fits
+        (HasRoomForLines (length offer.made.tally.catalog.texts + block.lines) offer.made.tally.catalog)) }
+    ensures errors { IfErr result (λ told. IsNoRoom told ⊎ (told ≡ fault.TooOften)) }
+    ensures full { result ≡ Err fault.FullOfLines
+        → HasRoomForLines (length rough.tally.catalog.texts) rough.tally.catalog
+        → MOST_KEYS < length rough.tally.catalog.texts }
+    ensures often { result ≡ Err fault.TooOften → (lines : List (List ℕ)) → Tells rough lines
+        → 2 ^ 64 ≤ length lines }
 {
     let mut made = rough;
     if made.tally.make_room_within(alloc, plan.limit, block)? {
         return Ok(Offer { made, fits: true });
     }
-    if let Some(limit) = plan.limit {
-        if !made.tally.fits_alone(limit, block) {
-            return Ok(Offer { made, fits: false });
-        }
+    let Some(limit) = plan.limit else {
+        unreachable!();
+    };
+    if !made.tally.fits_alone(limit, block) {
+        return Ok(Offer { made, fits: false });
     }
     let made = forget_for(rt, alloc, plan, made, block)?;
     Ok(Offer { made, fits: true })
@@ -146,19 +181,33 @@ fn forget_for<R: Threads + Sync + Wait>(
     block: Load,
 ) -> Result<RoughTally, ProgramFault>
     requires ready { CanForget rough }
+    requires over { TellsWhetherFits plan.limit rough.tally.catalog block false }
+    requires alone { IfSome plan.limit (λ limit. FitsAlone limit rough.tally.catalog block) }
     ensures ready { IfOk result CanForget }
     ensures told { IfOk result (KeepsTold rough) }
-    ensures fits { IfOk result (λ rough.
-        TellsWhetherFits plan.limit rough.tally.catalog block true) }
+    ensures fits { IfOk result (λ left.
+        TellsWhetherFits plan.limit left.tally.catalog block true) }
+    ensures made { IfOk result (λ left. (most : ℕ) → IsNarrow plan.limit most rough.tally.catalog
+        → HasCutFor plan.limit most block rough left) }
+    ensures wide { IfOk result (λ left. left.tally.catalog.room
+        ≤ max rough.tally.catalog.room (2 * (length rough.tally.catalog.texts + block.lines))) }
+    ensures room { IfOk result (λ left.
+        HasRoomForLines (length left.tally.catalog.texts + block.lines) left.tally.catalog) }
+    ensures errors { IfErr result (λ told. IsNoRoom told ⊎ (told ≡ fault.TooOften)) }
+    ensures full { result ≡ Err fault.FullOfLines
+        → HasRoomForLines (length rough.tally.catalog.texts) rough.tally.catalog
+        → MOST_KEYS < length rough.tally.catalog.texts }
+    ensures often { result ≡ Err fault.TooOften → (lines : List (List ℕ)) → Tells rough lines
+        → 2 ^ 64 ≤ length lines }
 {
     let mut left = rough;
-    for _ in 0..usize::BITS {
+    while !left.tally.is_empty() {
         left = left.forget(rt, alloc, plan)?;
         if left.tally.make_room_within(alloc, plan.limit, block)? {
             return Ok(left);
         }
     }
-    Err(ProgramFault::FullOfLines)
+    unreachable!()
 }
 
 /// How many bytes are asked for at once.
@@ -200,12 +249,22 @@ where
         counted.rough.tally.counts.items)) }
     ensures first { IfOk result (λ counted. IfSome (I.remaining reader.old) (λ input.
         TellsFirst column input counted.taken.lines counted.rough)) }
+    ensures made { IfOk result (λ counted. IfSome (I.remaining reader.old) (λ input.
+        (most : ℕ) × HasTallied plan.limit column input counted.taken.lines most counted.rough)) }
+    ensures unlimited { plan.limit ≡ None → IfOk result (λ counted.
+        IsTrue counted.taken.is_whole × (counted.rough.missed.times ≡ 0)) }
     ensures ready { IfOk result (λ counted. CanForget counted.rough) }
     ensures kept { IfOk result (λ counted.
         KeepsTo plan.limit counted.taken.lines counted.rough.tally.catalog) }
     ensures never { IfOk result (λ counted. counted.taken.is_whole ≡ false
         → IfSome plan.limit (λ limit. IfSome (I.remaining reader.old) (λ input.
         FitsNever column limit input counted.taken.lines counted.rough.tally.catalog))) }
+    ensures errors { IfErr result (λ told.
+        IsReadFault told ⊎ IsNoRoom told ⊎ (told ≡ fault.TooOften)) }
+    ensures too_many { result ≡ Err fault.FullOfLines → IfSome (I.remaining reader.old) (λ input.
+        MOST_KEYS < length (distinct (counted_of column (lines_in input)))) }
+    ensures too_often { result ≡ Err fault.TooOften → IfSome (I.remaining reader.old) (λ input.
+        2 ^ 64 ≤ length (lines_in input)) }
 {
     let catalog = Catalog::open(alloc, plan.hashing, plan.first_room(), plan.limit)?;
     let mut rough = RoughTally {

@@ -1,18 +1,19 @@
 -- The rarest lines of a tally are forgotten.
-use Rattle.std.proofs.Common.{◌≡◌, ◌≢◌, ◌∙◌, ◌+◌, ◌<◌, ◌≤◌, ◌==◌, ℕ, Bool, true, false, cond, if◌then◌else◌, List, [], ◌∷◌, ◌++◌, ◌||◌, All, Some, ap, ap₂, append-nil, append_assoc, arith, inl, inr, length, map, refl, subst, sym, take}
+use Rattle.std.proofs.Common.{◌≡◌, ◌≢◌, ◌∙◌, ◌+◌, ◌*◌, ◌<◌, ◌≤◌, ◌==◌, ℕ, Bool, true, false, cond, if◌then◌else◌, List, [], ◌∷◌, ◌++◌, ◌||◌, All, Some, ap, ap₂, append-nil, append_assoc, arith, get_or, inl, inr, length, length-append, map, refl, subst, sym, take}
 use Rattle.std.specs.List.{filter}
-use Rattle.std.specs.Prelude.{nat_lt, slice_get, slice_index}
-use Rattle.std.proofs.lemmas.Bool.{cases_Bool, eq-eqb, ltb-false, ne_eqb}
-use Rattle.std.proofs.lemmas.List.{map-append}
+use Rattle.std.specs.Prelude.{Contains, count_by, nat_lt, slice_get, slice_index}
+use Rattle.std.proofs.lemmas.Bool.{cases_Bool, eq-eqb, le-ltb, ltb-false, ne_eqb}
+use Rattle.std.proofs.lemmas.List.{get_or-map, length-map, map-append}
 use Rattle.std.proofs.lemmas.List.Concat.{flat_map-append}
 use Rattle.std.proofs.lemmas.List.Elements.{All-cons, All-filter, All-head, All-nil, All-push, All-tail, filter-append, filter_more}
-use Rattle.std.proofs.lemmas.List.Sums.{sum_by-cons}
+use Rattle.std.proofs.lemmas.List.Sums.{count_by-le-length, length-filter, sum_by-cons}
 use Rattle.std.proofs.lemmas.Option.{get_or_from_slice_get}
 use Rattle.std.proofs.lemmas.Slice.Eq.{bytes_eq-Decides}
 use Rattle.core.specs.Str.{bytes_eq}
-use Rattle.nb_texts.proofs.LinesLemmas.{with-append}
+use Rattle.nb_texts.proofs.LinesLemmas.{with-append, with-few}
+use Rattle.nb_texts.proofs.PartLemmas.{part-few}
 use Rattle.nb_texts.proofs.TallyLemmas.{all-with, index-map, never, times-append}
-use Rattle.nb_texts.specs.Forgetting.{AreBounds, AreLines, ArePartOf, IsTallyWithin, comes_above, lines_above}
+use Rattle.nb_texts.specs.Forgetting.{AreBounds, AreLines, ArePartOf, IsMiddle, IsTallyWithin, comes_above, lines_above}
 use Rattle.nb_texts.specs.Lines.{distinct, is_among, lines_in, onto, text_of_lines, with_new_lines}
 use Rattle.nb_texts.specs.Sources.{IsInOneLine}
 use Rattle.nb_texts.specs.Tallies.{IsTally, times}
@@ -299,6 +300,90 @@ tally-above cut lines known known' counts counts' tally entered told =
           ∙ ap (map (λ line. times line left)) (same ∙ sym are);
     }
 
+-- ---- how many are kept
+
+count-map :
+    (q : ℕ → Bool) (f : List ℕ → ℕ) (known : List (List ℕ))
+    → count_by q (map f known) ≡ count_by (λ line. q (f line)) known
+count-map q f [] = refl
+count-map q f (line ∷ known) =
+    omega (
+      arith,
+      count-map q f known,
+      sum_by-cons (λ n. cond (q n) 1 0) (f line) (map f known),
+      sum_by-cons (λ line. cond (q (f line)) 1 0) line known,
+    )
+
+-- half of the lines or fewer, if the cut is the middle one
+pub half-kept :
+    (cut : ℕ) (lines known known' : List (List ℕ)) (counts : List ℕ) → IsTally lines known counts
+    → IsMiddle counts cut → known' ≡ distinct (filter (comes_above cut lines) known)
+    → 2 * length known' ≤ length known
+half-kept cut lines known known' counts tally middle entered =
+    let of : List ℕ → ℕ = λ line. times line lines in
+    let p = comes_above cut lines in
+    let above : count_by (nat_lt cut) counts ≡ count_by p known
+    = ap (count_by (nat_lt cut)) tally.told ∙ count-map (nat_lt cut) of known in
+    omega (
+      arith,
+      middle.above,
+      above,
+      ap length tally.told,
+      length-map known of,
+      ap length entered,
+      with-few [] (filter p known),
+      length-filter p known,
+    )
+
+-- a line that doesn't pass goes as often as it comes
+filter-less :
+    (p : List ℕ → Bool) (line : List ℕ) (lines : List (List ℕ)) → p line ≡ false
+    → length (filter p lines) + times line lines ≤ length lines
+filter-less p line [] fails = omega arith
+filter-less p line (other ∷ lines) fails =
+    let f : List ℕ → ℕ = λ other. cond (bytes_eq line other) 1 0 in
+    let rest = filter-less p line lines fails in
+    let one = sum_by-cons f other lines in
+    elim (cases_Bool (p other)) [
+      | inl pass ↦
+          let none = ap {B = ℕ} (λ b. cond b 1 0) (other-passes p line other fails pass) in
+          rw pass (omega (arith, rest, one, none))
+      | inr fail ↦ elim (cases_Bool (bytes_eq line other)) [
+        | inl same ↦
+            let is = ap {B = ℕ} (λ b. cond b 1 0) same in
+            rw fail (omega (arith, rest, one, is))
+        | inr differs ↦
+            let is = ap {B = ℕ} (λ b. cond b 1 0) differs in
+            rw fail (omega (arith, rest, one, is))
+      ]
+    ]
+
+-- one of the counts is that of a line
+line-of :
+    (f : List ℕ → ℕ) (known : List (List ℕ)) (counts : List ℕ) (count : ℕ) → counts ≡ map f known
+    → Contains counts count → (line : List ℕ) × (f line ≡ count)
+line-of f known counts count told at =
+    let less : at.0 < length known = omega (arith, at.1, ap length told, length-map known f) in (
+      get_or known at.0 [],
+      sym (get_or-map f known at.0 [] count less) ∙ ap (λ counts. get_or counts at.0 count) (sym told)
+          ∙ at.2,
+    )
+
+-- of the lines so many go, at least, as the cut is
+left-many :
+    (cut : ℕ) (lines known : List (List ℕ)) (counts : List ℕ) → IsTally lines known counts
+    → IsMiddle counts cut → length (lines_above cut lines) + cut ≤ length lines
+left-many cut lines known counts tally middle =
+    let p = comes_above cut lines in
+    elim middle.one [
+      | inl one ↦
+          let found = line-of (λ line. times line lines) known counts cut tally.told one in
+          let fails : p found.0 ≡ false = le-ltb cut (times found.0 lines) (omega (arith, found.1)) in
+          omega (arith, filter-less p found.0 lines fails, found.1)
+      | inr none ↦
+          omega (arith, none.1, length-filter p lines, count_by-le-length p lines)
+    ]
+
 -- ---- some of all lines
 
 part-more : (some : List (List ℕ)) (first : List ℕ) (all : List (List ℕ)) → ArePartOf some all
@@ -345,6 +430,7 @@ within-none known counts none zero = record {
   counted = [];
   part = tt;
   left_out = λ line. omega arith;
+  many = omega arith;
   tally = record { are = none; told = zero ∙ ap (map (λ line. times line [])) (sym none) };
 }
 
@@ -362,15 +448,23 @@ within-entered missed lines block known known' counts counts' more within = reco
         times-append line lines block,
         times-append line within.counted block,
       );
+  many =
+      omega (
+        arith,
+        within.many,
+        length-append lines block,
+        length-append within.counted block,
+      );
   tally = more within.counted within.tally;
 }
 
 pub within-above :
     (missed cut : ℕ) (lines known known' : List (List ℕ)) (counts counts' : List ℕ)
+    → IsMiddle counts cut
     → ((lines : List (List ℕ)) → IsTally lines known counts
     → IsTally (lines_above cut lines) known' counts')
     → IsTallyWithin missed lines known counts → IsTallyWithin (missed + cut) lines known' counts'
-within-above missed cut lines known known' counts counts' less within =
+within-above missed cut lines known known' counts counts' middle less within =
     let p = comes_above cut within.counted in
     record {
       counted = lines_above cut within.counted;
@@ -385,8 +479,40 @@ within-above missed cut lines known known' counts counts' less within =
               ltb-false cut (times line within.counted) fails,
             )
       ];
+      many =
+          omega (arith, within.many, left-many cut within.counted known counts within.tally middle);
       tally = less within.counted within.tally;
     }
+
+-- no more lines have a count than there are,
+pub within-few :
+    (missed : ℕ) (lines known : List (List ℕ)) (counts : List ℕ)
+    → IsTallyWithin missed lines known counts → length known ≤ length lines
+within-few missed lines known counts within =
+    omega (arith, within.many, ap length within.tally.are, with-few [] within.counted)
+
+-- or distinct ones, also with a block,
+pub within-distinct :
+    (missed : ℕ) (lines block known : List (List ℕ)) (counts : List ℕ)
+    → IsTallyWithin missed lines known counts
+    → length (with_new_lines known block) ≤ length (distinct (lines ++ block))
+within-distinct missed lines block known counts within =
+    let all : distinct (within.counted ++ block) ≡ with_new_lines known block
+    = with-append [] within.counted block
+    ∙ ap (λ known. with_new_lines known block) (sym within.tally.are) in
+    omega (
+      arith,
+      ap length all,
+      part-few (within.counted ++ block) (lines ++ block) []
+          (part-append within.counted lines block within.part),
+    )
+
+-- and where the middle count is missed, too, no more than that are missed
+pub within-middle :
+    (missed cut : ℕ) (lines known : List (List ℕ)) (counts : List ℕ) → IsMiddle counts cut
+    → IsTallyWithin missed lines known counts → missed + cut ≤ length lines
+within-middle missed cut lines known counts middle within =
+    omega (arith, within.many, left-many cut within.counted known counts within.tally middle)
 
 -- ---- bounds
 
@@ -417,6 +543,7 @@ within-bounds missed lines known counts within = record {
   least = λ place line at.
       omega (arith, count place line at, part-times line within.counted lines within.part);
   most = λ place line at. omega (arith, count place line at, within.left_out line);
+  few = omega (arith, within.many);
   others = λ line out.
       let all = subst (λ known. All (λ line. is_among line known ≡ true) within.counted)
       (sym within.tally.are) (all-with [] within.counted) in

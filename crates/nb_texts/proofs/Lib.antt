@@ -7,6 +7,7 @@ pub mod FullLemmas
 pub mod LinesLemmas
 pub mod MemoryLemmas
 pub mod MiddleLemmas
+pub mod PartLemmas
 pub mod PlacesLemmas
 pub mod ReadingLemmas
 pub mod RestLemmas

@@ -1,12 +1,12 @@
 -- The number in the middle of sorted ones.
-use Rattle.std.proofs.Common.{◌≡◌, ◌+◌, ◌/◌, ◌<◌, ◌≤◌, ℕ, Bool, false, cond, List, [], ◌∷◌, All, ap, arith, drop, get_or, length, length-drop, refl, take}
+use Rattle.std.proofs.Common.{◌≡◌, ◌+◌, ◌/◌, ◌<◌, ◌≤◌, ℕ, Bool, false, cond, List, [], ◌∷◌, All, ap, arith, drop, get_or, inl, inr, length, length-drop, refl, take}
 use Rattle.std.specs.List.Sorted.{IsNonDecreasing, IsPermutation, IsSorted}
 use Rattle.std.specs.Ordering.{nat_cmp}
 use Rattle.std.specs.Prelude.{count_by, nat_lt}
 use Rattle.std.proofs.lemmas.Bool.{le-ltb}
-use Rattle.std.proofs.lemmas.List.{get_or-drop, get_or-take, length-take}
-use Rattle.std.proofs.lemmas.List.Elements.{All-from_get_or, All-head, All-tail}
-use Rattle.std.proofs.lemmas.List.Sorted.{IsNonDecreasingBy-from_sort, length_permutation, sum_by-IsPermutation}
+use Rattle.std.proofs.lemmas.List.{get_or-drop, get_or-take, length-take, nil_from_length}
+use Rattle.std.proofs.lemmas.List.Elements.{All-from_get_or, All-head, All-tail, Contains-get_or}
+use Rattle.std.proofs.lemmas.List.Sorted.{Contains-permutation, IsNonDecreasingBy-from_sort, IsPermutation-sym, length_permutation, sum_by-IsPermutation}
 use Rattle.std.proofs.lemmas.List.Sums.{count_by-le-length, sum_by-cons, sum_by-take-drop}
 use Rattle.nb_texts.specs.Forgetting.{IsMiddle}
 
@@ -67,6 +67,9 @@ middle-of counts sorted i same is at some =
     let less : i < length sorted = omega (arith, at, some) in
     let many = length_permutation counts sorted same in
     record {
+      one =
+          inl (Contains-permutation sorted counts middle (IsPermutation-sym counts sorted same)
+          (Contains-get_or sorted i 0 less));
       above =
           omega (
             arith,
@@ -89,6 +92,7 @@ pub middle-none : (counts sorted : List ℕ) → IsPermutation counts sorted →
 middle-none counts sorted same none =
     let many = length_permutation counts sorted same in
     record {
+      one = inr (nil_from_length counts (omega (arith, many, none)), refl);
       above = omega (arith, count_by-le-length (λ count. nat_lt 0 count) counts, many, none);
       below = omega (arith, count_by-le-length (λ count. nat_lt count 0) counts, many, none);
     }

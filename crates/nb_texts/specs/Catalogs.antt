@@ -10,6 +10,7 @@ use Rattle.nb_map.specs.OneSeat.{held}
 use Rattle.nb_texts.specs.Claims.{ClaimsOnly}
 use Rattle.nb_texts.specs.Entering.{IsIndex}
 use Rattle.nb_texts.specs.Hashes.{key_for}
+use Rattle.nb_texts.specs.Memory.{shape_with_room}
 use Rattle.nb_texts.specs.declared.catalog.Catalog.{Catalog}
 
 -- all seats of the handle know one and the same log
@@ -22,12 +23,13 @@ HaveClaimed handle =
     All (ClaimsOnly handle.map.chain.shape (held handle.seat)) (seats_of handle)
 
 -- It has all seats of its map, and nobody works with it. The map is an index of its texts, has slots
--- for these alone, and room for so many.
+-- for these alone, and was made for so many, for which it has room.
 pub record IsAtRest (catalog : Catalog) : Type 0 where
   pub whole : IsWhole catalog.handle
   pub logs : HaveOneLog catalog.handle
   pub index : IsIndex (key_for catalog.hashing) catalog.texts (held catalog.handle.seat)
   pub claims : HaveClaimed catalog.handle
+  pub made : catalog.handle.map.chain.shape ≡ shape_with_room catalog.room
   pub room : HasRoomFor catalog.handle.map.chain.shape catalog.room
   pub most : catalog.room ≤ MOST_KEYS
 

@@ -1,6 +1,6 @@
 -- The rarest lines of a tally are forgotten.
 use Rattle.std.specs.List.{filter}
-use Rattle.std.specs.Prelude.{◌≡◌, ◌+◌, ◌*◌, ◌≤◌, ◌⊎◌, ℕ, All, Bool, false, List, [], ◌∷◌, Some, count_by, length, nat_lt, slice_get, slice_index}
+use Rattle.std.specs.Prelude.{◌≡◌, ◌+◌, ◌*◌, ◌≤◌, ◌⊎◌, ℕ, All, Bool, Contains, false, List, [], ◌∷◌, Some, count_by, length, nat_lt, slice_get, slice_index}
 use Rattle.nb_texts.specs.Lines.{is_among}
 use Rattle.nb_texts.specs.Memory.{bytes_of_load, bytes_of_map}
 use Rattle.nb_texts.specs.Sources.{IsInOneLine}
@@ -19,8 +19,10 @@ AreLines texts = All IsInOneLine texts
 abbrev pub IsTallyOfSome : (known : List (List ℕ)) → (counts : List ℕ) → Type 0
 IsTallyOfSome known counts = (lines : List (List ℕ)) × IsTally lines known counts
 
--- no more than half of the counts are above this one, and no more than half below
+-- It is one of the counts, or 0 where there is none; and no more than half of them are above it, and no
+-- more than half below.
 pub record IsMiddle (counts : List ℕ) (middle : ℕ) : Type 0 where
+  pub one : Contains counts middle ⊎ ((counts ≡ []) × (middle ≡ 0))
   pub above : 2 * count_by (λ count. nat_lt middle count) counts ≤ length counts
   pub below : 2 * count_by (λ count. nat_lt count middle) counts ≤ length counts
 
@@ -42,15 +44,17 @@ ArePartOf (line ∷ some) (first ∷ all) =
     ((line ≡ first) × ArePartOf some all) ⊎ ArePartOf (line ∷ some) all
 
 -- Of these lines some are counted, exactly, and each line is left out so many times at most: its count,
--- or 0 if it has none, is no more than the times that it comes, and at most so much less.
+-- or 0 if it has none, is no more than the times that it comes, and at most so much less. So many are
+-- left out of all, at least.
 pub record IsTallyWithin (missed : ℕ) (lines known : List (List ℕ)) (counts : List ℕ) : Type 0 where
   pub counted : List (List ℕ)
   pub part : ArePartOf counted lines
   pub left_out : (line : List ℕ) → times line lines ≤ times line counted + missed
+  pub many : length counted + missed ≤ length lines
   pub tally : IsTally counted known counts
 
 -- A line that has a count comes so often at least, and at most so many times more; one that has none
--- comes no more often than that.
+-- comes no more often than that. All lines are as many, at least.
 pub record AreBounds (missed : ℕ) (lines known : List (List ℕ)) (counts : List ℕ) : Type 0 where
   pub least :
       (place : ℕ) (line : List ℕ) → slice_get known place ≡ Some line
@@ -59,6 +63,7 @@ pub record AreBounds (missed : ℕ) (lines known : List (List ℕ)) (counts : Li
       (place : ℕ) (line : List ℕ) → slice_get known place ≡ Some line
       → times line lines ≤ slice_index counts place + missed
   pub others : (line : List ℕ) → is_among line known ≡ false → times line lines ≤ missed
+  pub few : missed ≤ length lines
 
 -- ---- a limit
 

@@ -7,12 +7,16 @@ use Rattle.nb_texts.specs.declared.catalog.Catalog.{Catalog}
 use Rattle.nb_texts.specs.declared.catalog.TheConstants.{SEATS}
 use Rattle.nb_texts.specs.declared.memory.Load.{Load}
 use Rattle.nb_texts.specs.declared.memory.MemoryLimit.{MemoryLimit}
-use Rattle.nb_texts.specs.declared.plan.TheConstants.{AHEAD, BYTES_OF_AHEAD}
+use Rattle.nb_texts.specs.declared.plan.TheConstants.{AHEAD, BYTES_OF_AHEAD, BYTES_OF_ROOM}
 
 -- how many bytes are asked for at once: under a limit a part of it, one at least
 abbrev pub ahead_under : Option MemoryLimit → ℕ
 ahead_under None = AHEAD
 ahead_under (Some limit) = max (min AHEAD (limit.bytes / BYTES_OF_AHEAD)) 1
+
+-- for how many lines at most a map is made at first under a limit
+abbrev pub room_at_first : MemoryLimit → ℕ
+room_at_first limit = limit.bytes / BYTES_OF_ROOM
 
 -- the lines of a text
 abbrev pub load_of : List ℕ → Load

@@ -1,5 +1,5 @@
 //! A catalog: the distinct lines of a stream, found by their hashes in a map.
-ghost use Rattle.std.specs.Prelude.{◌≡◌, ◌+◌, ◌^◌, ◌≤◌, ◌<◌, ◌↔◌, ◌++◌, [], ◌∷◌, ℕ, All, IfErr, IfOk, IsOkUnless, IsTrue, MatchOption, None, OnErr, OnOk, Some, drop, length, map, min, slice_get, sum_by};
+ghost use Rattle.std.specs.Prelude.{◌≡◌, ◌+◌, ◌*◌, ◌^◌, ◌≤◌, ◌<◌, ◌↔◌, ◌++◌, [], ◌∷◌, ℕ, All, IfErr, IfOk, IsOkUnless, IsTrue, MatchOption, None, OnErr, OnOk, Some, drop, length, map, max, min, slice_get, sum_by};
 ghost use Rattle.std.specs.Bool.{OnFalse, OnTrue};
 ghost use Rattle.nb_core.specs.Meaning.{IsCrowded};
 ghost use Rattle.nb_core.specs.Plans.{HasRoomFor};
@@ -113,6 +113,8 @@ impl Catalog {
         requires rest { IsAtRest self.old }
         ensures rest { OnOk result (IsAtRest self.new) }
         ensures room { OnOk result (min (length self.new.texts + lines) MOST_KEYS ≤ self.new.room) }
+        ensures wide { OnOk result (self.new.room
+            ≤ max self.old.room (2 * (length self.old.texts + lines))) }
         ensures same { self.new.texts ≡ self.old.texts }
         ensures errors { IfErr result IsNoRoom }
         ensures full { result ≡ Err fault.FullOfLines → MOST_KEYS < length self.old.texts }
@@ -136,6 +138,8 @@ impl Catalog {
         ensures rest { OnOk result (IsAtRest self.new) }
         ensures room { IfOk result (λ fits. OnTrue fits
             (min (length self.new.texts + block.lines) MOST_KEYS ≤ self.new.room)) }
+        ensures wide { OnOk result (self.new.room
+            ≤ max self.old.room (2 * (length self.old.texts + block.lines))) }
         ensures same { self.new.texts ≡ self.old.texts }
         ensures fits { IfOk result (TellsWhetherFits limit self.new block) }
         ensures back { IfOk result (λ fits. OnFalse fits (self.new ≡ self.old)) }
@@ -162,6 +166,8 @@ impl Catalog {
         ensures rest { OnOk result (IsAtRest self.new) }
         ensures room { IfOk result (λ fits. OnTrue fits
             (min (length self.new.texts + block.lines) MOST_KEYS ≤ self.new.room)) }
+        ensures wide { OnOk result (self.new.room
+            ≤ max self.old.room (2 * (length self.old.texts + block.lines))) }
         ensures same { self.new.texts ≡ self.old.texts }
         ensures fits { IfOk result (TellsWhetherFits (Some limit) self.new block) }
         ensures back { IfOk result (λ fits. OnFalse fits (self.new ≡ self.old)) }
@@ -230,6 +236,7 @@ impl Catalog {
             ≡ map Some (lines_in block.now)) }
         ensures map { self.new.handle.map ≡ self.old.handle.map }
         ensures whole { IsWhole self.new.handle }
+        ensures room { self.new.room ≡ self.old.room }
         ensures grown { HaveGrownBy (lines_in block.now) self.old.texts self.new.texts }
         ensures errors { IfErr result IsNoRoom }
         ensures full { result ≡ Err fault.FullOfLines
@@ -280,7 +287,8 @@ fn shape_for(room: usize) -> Shape
 fn room_within(left: usize, entries: usize, needed: usize) -> Option<usize>
     requires { needed ≤ MOST_KEYS }
     ensures { MatchOption result (left < bytes_to_make (widened needed) entries)
-        (λ room. (needed ≤ room) × (room ≤ MOST_KEYS) × (bytes_to_make room entries ≤ left)) }
+        (λ room. (needed ≤ room) × (room ≤ min (2 * needed) MOST_KEYS)
+        × (bytes_to_make room entries ≤ left)) }
 {
     let twice = (needed * 2).min(MOST_KEYS);
     if can_make(left, entries, twice) {

@@ -1,6 +1,8 @@
 //! Forgetting the rarest lines of a tally, so that there is memory for others.
 ghost use Rattle.std.specs.List.{filter};
-ghost use Rattle.std.specs.Prelude.{◌≡◌, ◌++◌, ◌∷◌, ◌↔◌, [], ℕ, IfErr, IfOk, IsTrue, List, OnOk, if◌then◌else◌, length, map, nat_lt};
+ghost use Rattle.std.specs.Prelude.{◌≡◌, ◌*◌, ◌<◌, ◌≤◌, ◌++◌, ◌∷◌, ◌↔◌, [], ℕ, IfErr, IfOk, IsTrue, List, OnOk, if◌then◌else◌, length, map, min, nat_lt};
+ghost use Rattle.nb_core.specs.declared.shapes.TheConstants.{MOST_KEYS};
+ghost use Rattle.nb_lines.specs.declared.faults.ProgramFault.TheVariants as fault;
 ghost use Rattle.nb_texts.specs.Catalogs.{IsNoRoom};
 ghost use Rattle.nb_texts.specs.Forgetting.{IsMiddle, lines_above};
 ghost use Rattle.nb_texts.specs.Lines.{text_of_lines};
@@ -78,12 +80,18 @@ impl LineTally {
         requires tally { IsTallyOfSome self.catalog.texts self.counts.items }
         ensures rest { IfOk result (λ forgotten. IsAtRest forgotten.tally.catalog) }
         ensures lines { IfOk result (λ forgotten. AreLines forgotten.tally.catalog.texts) }
+        ensures room { IfOk result (λ forgotten.
+            forgotten.tally.catalog.room ≡ min self.catalog.room MOST_KEYS) }
+        ensures half { IfOk result (λ forgotten.
+            2 * length forgotten.tally.catalog.texts ≤ length self.catalog.texts) }
         ensures cut { IfOk result (λ forgotten. IsMiddle self.counts.items forgotten.cut) }
         ensures tally { IfOk result (λ forgotten. (lines : List (List ℕ))
             → IsTally lines self.catalog.texts self.counts.items
             → IsTally (lines_above forgotten.cut lines) forgotten.tally.catalog.texts
             forgotten.tally.counts.items) }
         ensures errors { IfErr result IsNoRoom }
+        ensures full { result ≡ Err fault.FullOfLines
+            → min self.catalog.room MOST_KEYS < length self.catalog.texts }
     {
         let cut = middle_of(alloc, self.counts.as_slice())?;
         let Kept { text, counts } = kept_above(alloc, &self, cut)?;

@@ -1,6 +1,6 @@
 //! How a program takes the lines of an input.
-ghost use Rattle.std.specs.Prelude.{◌≡◌, ◌/◌, MatchOption, min};
-ghost use Rattle.nb_texts.specs.Memory.{ahead_under};
+ghost use Rattle.std.specs.Prelude.{◌≡◌, MatchOption, min};
+ghost use Rattle.nb_texts.specs.Memory.{ahead_under, room_at_first};
 
 use crate::hashing::Hashing;
 use crate::memory::MemoryLimit;
@@ -43,7 +43,7 @@ impl LinePlan {
     /// For how many different lines there is room at first under the limit.
     pub fn first_room(&self) -> usize
         ensures { MatchOption self.now.limit (result ≡ self.now.room)
-            (λ limit. result ≡ min self.now.room (limit.bytes / BYTES_OF_ROOM)) }
+            (λ limit. result ≡ min self.now.room (room_at_first limit)) }
     {
         match self.limit {
             Some(limit) => self.room.min(limit.bytes / BYTES_OF_ROOM),

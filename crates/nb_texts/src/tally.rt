@@ -1,6 +1,6 @@
 //! How often each line comes.
 ghost use Rattle.std.specs.Bool.{OnFalse, OnTrue};
-ghost use Rattle.std.specs.Prelude.{◌≡◌, ◌+◌, ◌^◌, ◌<◌, ◌≤◌, ◌++◌, ◌==◌, ◌⊎◌, ℕ, Contains, List, [], IfErr, IfOk, IsOkUnless, OnErr, OnOk, count_by, length, min, slice_index};
+ghost use Rattle.std.specs.Prelude.{◌≡◌, ◌+◌, ◌*◌, ◌^◌, ◌<◌, ◌≤◌, ◌++◌, ◌==◌, ◌⊎◌, ℕ, Contains, List, [], IfErr, IfOk, IsOkUnless, OnErr, OnOk, count_by, length, max, min, slice_index};
 ghost use Rattle.nb_core.specs.declared.shapes.TheConstants.{MOST_KEYS};
 ghost use Rattle.nb_lines.specs.declared.faults.ProgramFault.TheVariants as fault;
 ghost use Rattle.nb_texts.specs.Catalogs.{IsNoRoom};
@@ -49,6 +49,13 @@ impl LineTally {
         }
     }
 
+    /// Whether there are no lines.
+    pub fn is_empty(&self) -> bool
+        ensures { result ≡ (length self.now.catalog.texts == 0) }
+    {
+        self.catalog.len() == 0
+    }
+
     /// The lines, in the order of their first coming.
     pub fn rows(&self, alloc: Global) -> Result<Vec<Row<'_>>, ProgramFault>
         requires { length self.now.counts.items ≡ length self.now.catalog.texts }
@@ -79,6 +86,8 @@ impl LineTally {
         ensures rest { OnOk result (IsAtRest self.new.catalog) }
         ensures room { IfOk result (λ fits. OnTrue fits
             (min (length self.new.catalog.texts + block.lines) MOST_KEYS ≤ self.new.catalog.room)) }
+        ensures wide { OnOk result (self.new.catalog.room
+            ≤ max self.old.catalog.room (2 * (length self.old.catalog.texts + block.lines))) }
         ensures texts { self.new.catalog.texts ≡ self.old.catalog.texts }
         ensures counts { self.new.counts ≡ self.old.counts }
         ensures fits { IfOk result (TellsWhetherFits limit self.new.catalog block) }
@@ -104,6 +113,7 @@ impl LineTally {
         ensures texts { OnOk result (self.new.catalog.texts
             ≡ with_new_lines self.old.catalog.texts (lines_in block.now)) }
         ensures map { OnOk result (self.new.catalog.handle.map ≡ self.old.catalog.handle.map) }
+        ensures room { self.new.catalog.room ≡ self.old.catalog.room }
         ensures tally { OnOk result ((lines : List (List ℕ))
             → IsTally lines self.old.catalog.texts self.old.counts.items
             → IsTally (lines ++ lines_in block.now) self.new.catalog.texts

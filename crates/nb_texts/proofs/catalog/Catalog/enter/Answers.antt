@@ -11,6 +11,7 @@ use Rattle.nb_texts.specs.Claims.{ClaimsOnly}
 use Rattle.nb_texts.specs.Entering.{HasEntered, HasNoRoomFor}
 use Rattle.nb_texts.specs.Hashes.{key_for}
 use Rattle.nb_texts.specs.Lines.{lines_in}
+use Rattle.nb_texts.specs.Memory.{shape_with_room}
 use Rattle.nb_texts.proofs.catalog.Catalog.enter.Goals as goal
 
 pub gather-requires : goal.gather-requires
@@ -61,6 +62,8 @@ returns-clause-rest g c =
       claims =
           subst (λ (m : MapOf). All (ClaimsOnly m.chain.shape (held last.seat)) (seats_of last))
           (sym same) claims;
+      made =
+          subst (λ (m : MapOf). m.chain.shape ≡ shape_with_room before.room) (sym same) at_rest.made;
       room =
           subst (λ (m : MapOf). HasRoomFor m.chain.shape before.room) (sym same) at_rest.room;
       most = at_rest.most;

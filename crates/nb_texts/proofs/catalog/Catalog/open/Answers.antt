@@ -43,6 +43,7 @@ returns-clause-rest c =
       claims =
           All-weaker IsNew (ClaimsOnly handle.map.chain.shape (held handle.seat))
           (λ seat is. asks_add_up.none is) (seats_of handle) new;
+      made = c.in_ok-handle.ensures.made.shape ∙ c.shape_for.ensures.shape;
       room =
           subst (λ p. HasRoomFor p c.min-room.result) (sym c.in_ok-handle.ensures.made.shape)
           c.shape_for.ensures.room;
