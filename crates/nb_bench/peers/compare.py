@@ -1,12 +1,15 @@
 #!/usr/bin/env python3
 """Runs the map and its peers by turns, and prints for each line of a workload the best and the middle of what they measure.
 
-    compare.py [--seconds S] [--rounds N] [--threads 1,2,4] [--workloads ABCDE] [--keys WHICH] [--live N] [--calls N] [--limit S] [PEER..]
+    compare.py [--seconds S] [--rounds N] [--threads 1,2,4] [--workloads ABCDE] [--keys WHICH] [--live N] [--calls N] [--limit S]
+               [--real-time] [PEER..]
 
 A cell is the line's last number divided by its OPS: nanoseconds a call, where several threads work at once the machine's time for one
 call, not a thread's; in the line `memory` of F, bytes a key. `full` says that the map refused a new key in one of the runs. A run that
 hasn't ended after --limit seconds, or that fails, is left out, and standard error says so. With no peers named, all that are built take
-part. A peer NAME=PATH is the program at this path, such as the `nb_bench` of another commit."""
+part. A peer NAME=PATH is the program at this path, such as the `nb_bench` of another commit. With --real-time, for root, Linux gives each
+thread a processor of its own from the start, if there are as many; else two may share one for some milliseconds, as the longest puts
+show."""
 import argparse, os, statistics, subprocess, sys
 
 HERE = os.path.dirname(os.path.abspath(__file__))
@@ -37,6 +40,7 @@ def doubling(live):
 def lines_of(peer, words):
     """What a run measures: by the name of each line the number for a call, and whether the map was full."""
     before, after = PEERS[peer]
+    before = ['chrt', '--fifo', '1'] * given.real_time + before
     try:
         ran = subprocess.run(before + words + after, stdout=subprocess.PIPE, text=True, check=True, timeout=given.limit)
     except subprocess.TimeoutExpired:
@@ -70,6 +74,7 @@ words.add_argument('--rounds', type=int, default=5)
 words.add_argument('--threads', default='1,2,4')
 words.add_argument('--workloads', default='ABCDE')
 words.add_argument('--limit', type=float)
+words.add_argument('--real-time', action='store_true')
 for option in ['--keys', '--live', '--calls']:
     words.add_argument(option)
 words.add_argument('peers', nargs='*')

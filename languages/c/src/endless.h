@@ -30,6 +30,10 @@
 #define UNLIKELY(x) __builtin_expect(!!(x), 0)
 #define COLD __attribute__((cold, noinline))
 
+/* How many slots are a line of the cache, by their exponent; which bits of a key tell its place there. */
+#define LINE_BITS 2
+#define IN_LINE UINT64_C(3)
+
 /* Place 0 is of the one part of a map that isn't divided, and the others are of the parts of one that is. */
 enum { PARTS = 1 << PART_BITS, PLACES = 1 + PARTS };
 
@@ -95,7 +99,6 @@ struct samvolip_map {
     _Alignas(128) uint64_t id; /* no other map of the process has it, not even later; this line is what each call reads */
     uint64_t mixes_below;      /* which keys are mixed: all, or none */
     mixing mixing;
-    uint64_t spread;           /* brings all bits of a key into its highest ones; 1 where mixing has done so */
     atomic_bool is_divided;    /* it has PARTS parts */
     uint32_t cell;
     _Alignas(128) part parts[PLACES];
@@ -190,42 +193,70 @@ static inline uint64_t unmix(const mixing *by, uint64_t key)
     return (__builtin_bswap64(key) * by->inverse[0]) ^ by->with[0];
 }
 
-/* The key that stands in the core for this one, unless it is no key: two numbers are none. */
-static inline uint64_t mixed_once(const samvolip_map *map, uint64_t key)
+/* In a divided map that mixes nothing a key belongs to the part whose number is in the bits above its lowest ones, turned by a hash of
+   those above: so keys that follow each other go round all parts, four at a time, and those with a pattern do. There it stands as this
+   number: its part comes first, and the other bits after it, so that keys that follow each other have slots that do. The two numbers
+   that are no keys stay as they are. */
+static inline uint64_t turn(uint64_t key) { return (~key >> (LINE_BITS + PART_BITS)) * SAMVOLIP_MIX_FACTOR >> (64 - PART_BITS); }
+
+static inline uint64_t part_first(uint64_t key)
 {
-    return LIKELY(key < map->mixes_below) ? mix(&map->mixing, key) : key;
+    return (key >> LINE_BITS ^ turn(key)) << (64 - PART_BITS) | (key >> PART_BITS & ~IN_LINE) | (key & IN_LINE);
 }
 
-/* The key that stands in the core for this one. One that is mixed to a number that is no key is mixed again. */
-static inline uint64_t inner_key(const samvolip_map *map, uint64_t key)
+static inline uint64_t part_last(uint64_t inner)
 {
-    uint64_t inner = mixed_once(map, key);
+    uint64_t high = (inner & ~IN_LINE) << PART_BITS;
+    return high | ((inner >> (64 - PART_BITS) ^ turn(high)) & (PARTS - 1)) << LINE_BITS | (inner & IN_LINE);
+}
+
+/* The key that stands in a core for this one, of a map that is divided or isn't. It may be none: two numbers are no keys. */
+static inline uint64_t inner_once(const samvolip_map *map, bool divided, uint64_t key)
+{
+    if (LIKELY(key < map->mixes_below))
+        return mix(&map->mixing, key);
+    return divided ? part_first(key) : key;
+}
+
+/* The key that stands in a core for this one. One that is mixed to a number that is no key is mixed again. */
+static inline uint64_t inner_key(const samvolip_map *map, bool divided, uint64_t key)
+{
+    uint64_t inner = inner_once(map, divided, key);
     while (inner > SAMVOLIP_KEY_MAX && key <= SAMVOLIP_KEY_MAX)
         inner = mix(&map->mixing, inner);
     return inner;
 }
 
-static inline void outer_keys(const samvolip_map *map, samvolip_entry *entries, size_t count)
+/* The key for which this one stands in a core. */
+static inline uint64_t outer_key(const samvolip_map *map, bool divided, uint64_t inner)
 {
-    for (size_t i = 0; i < count && map->mixes_below > 0; i++)
-        do
-            entries[i].key = unmix(&map->mixing, entries[i].key);
-        while (entries[i].key > SAMVOLIP_KEY_MAX);
+    if (map->mixes_below == 0)
+        return divided ? part_last(inner) : inner;
+    do
+        inner = unmix(&map->mixing, inner);
+    while (inner > SAMVOLIP_KEY_MAX);
+    return inner;
 }
 
-/* Which of the parts of a divided map has a key. A table goes by the lowest bits. */
-static inline unsigned share_of(const samvolip_map *map, uint64_t inner) { return (unsigned)(inner * map->spread >> (64 - PART_BITS)); }
-
-/* The part that has this share now. Before and after a division it isn't in the same place: so if the map is divided, or is no more,
-   after this look, the gate there is closed. */
-static inline part *part_of(samvolip_map *map, unsigned share)
+/* The same for a key that this one stands for in another core, of the map as it was divided before, or wasn't. */
+static inline uint64_t moved_key(const samvolip_map *map, bool was_divided, bool divided, uint64_t inner)
 {
-    return &map->parts[UNLIKELY(atomic_load_explicit(&map->is_divided, memory_order_relaxed)) ? 1 + share : 0]; /* a jump: none waits for the key's share */
+    if (was_divided == divided || map->mixes_below > 0)
+        return inner;
+    return divided ? part_first(inner) : part_last(inner);
 }
+
+/* Which of the parts of a divided map has what stands in a core. */
+static inline unsigned share_of(uint64_t inner) { return (unsigned)(inner >> (64 - PART_BITS)); }
 
 /* ---- places and cores ---------------------------------------------------------------------- */
 
 static inline unsigned place_of(const samvolip_map *map, const part *one) { return (unsigned)(one - map->parts); }
+
+/* Whether a map is divided now, and the part that has this share of it then. Before and after a division that isn't in the same place: so
+   if the map is divided, or is no more, after this look, the gate there is closed. */
+static inline bool is_divided(const samvolip_map *map) { return UNLIKELY(atomic_load_explicit(&map->is_divided, memory_order_relaxed)); }
+static inline part *part_of(samvolip_map *map, bool divided, unsigned share) { return &map->parts[UNLIKELY(divided) ? 1 + share : 0]; }
 
 /* Where a map has its parts, if it is divided or not. */
 static inline range places_if(bool is_divided) { return is_divided ? (range){1, PLACES} : (range){0, 1}; }

@@ -119,10 +119,11 @@ void go_on(samvolip_map *map, range places, uint64_t writes, uint64_t reads)
 /* Puts entries into the cores to come, by a lane's seats. */
 static void copy_entries(const samvolip_map *map, job *job, unsigned lane, const samvolip_entry *entries, uint64_t count)
 {
-    bool divides = job->to.end - job->to.first > 1;
+    bool was_divided = job->from.first > 0, divided = job->to.first > 0, divides = divided && !was_divided;
     for (uint64_t i = 0; i < count; i++) {
-        core *to = job->cores[job->to.first + (divides ? share_of(map, entries[i].key) : 0)];
-        int code = samvolip_put_if_absent(&to->seats[lane], entries[i].key, entries[i].number, NULL);
+        uint64_t inner = moved_key(map, was_divided, divided, entries[i].key);
+        core *to = job->cores[job->to.first + (divides ? share_of(inner) : 0)];
+        int code = samvolip_put_if_absent(&to->seats[lane], inner, entries[i].number, NULL);
         if (code != SAMVOLIP_ABSENT)
             atomic_store(&job->refused, code < 0 ? code : SAMVOLIP_E_LOST);
     }
@@ -137,7 +138,8 @@ static void do_pieces(const samvolip_map *map, job *job, unsigned lane)
         core *of = map->parts[job->from.first + piece % parts].core;
         uint64_t count = list_piece(&of->seats[lane], piece / parts * PIECE, some);
         if (job->list) {
-            outer_keys(map, some, count);
+            for (uint64_t i = 0; i < count; i++)
+                some[i].key = outer_key(map, job->from.first > 0, some[i].key);
             memcpy(job->list + atomic_fetch_add(&job->listed, count), some, count * sizeof *some);
         } else {
             copy_entries(map, job, lane, some, count);

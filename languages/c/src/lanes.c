@@ -117,7 +117,7 @@ COLD part *enter_slowly(samvolip_map *map, unsigned what, unsigned share)
         return NULL;
     for (;;) {
         unsigned mine = own_lane(map);
-        part *into = part_of(map, share);
+        part *into = part_of(map, is_divided(map), share);
         if (mine)
             atomic_store(&here.busy, busy_word(into, what));
         else
@@ -127,7 +127,7 @@ COLD part *enter_slowly(samvolip_map *map, unsigned what, unsigned share)
         rest_lane();
         void *held = let_go(map);
         lock(map);
-        while (!admits(into = part_of(map, share), what))
+        while (!admits(into = part_of(map, is_divided(map), share), what))
             wait_or_help(map, only(place_of(map, into)), mine);
         unlock(map);
         take_back(map, held);

@@ -9,13 +9,14 @@
 #define CALL(what, name, parameters, words, call, change)                                                                            \
     static COLD int name##_slowly parameters                                                                                         \
     {                                                                                                                                \
-        uint64_t inner = inner_key(map, key), found __attribute__((unused));                                                         \
+        uint64_t found __attribute__((unused));                                                                                      \
         int code = AGAIN;                                                                                                            \
         while (code == AGAIN) {                                                                                                      \
-            part *into = enter_slowly(map, what, share_of(map, inner));                                                              \
+            part *into = enter_slowly(map, what, share_of(inner_key(map, true, key)));                                               \
             if (!into)                                                                                                               \
                 return SAMVOLIP_E_NESTED;                                                                                            \
             samvolip_seat *seat = used_seat(map, into);                                                                              \
+            uint64_t inner = inner_key(map, place_of(map, into) > 0, key);                                                           \
             code = call;                                                                                                             \
             code = end_call(map, into, code, (change) != STAYS && counts_down(map, used_lane(map), into, change));                   \
         }                                                                                                                            \
@@ -23,8 +24,9 @@
     }                                                                                                                                \
     int samvolip_map_##name parameters                                                                                               \
     {                                                                                                                                \
-        uint64_t inner = mixed_once(map, key), found __attribute__((unused));                                                        \
-        part *into = part_of(map, share_of(map, inner));                                                                             \
+        bool divided = is_divided(map); /* then a jump: nobody waits for the key's share */                                          \
+        uint64_t inner = inner_once(map, divided, key), found __attribute__((unused));                                               \
+        part *into = part_of(map, divided, share_of(inner));                                                                         \
         samvolip_seat *seat = LIKELY(inner <= SAMVOLIP_KEY_MAX) ? enter_at_once(map, into, what) : NULL;                             \
         if (UNLIKELY(!seat))                                                                                                         \
             return name##_slowly words;                                                                                              \
@@ -135,7 +137,6 @@ static samvolip_map *new_map(const samvolip_map_options *options)
     map->options = *options;
     map->mixes_below = is_mixed ? SAMVOLIP_KEY_MAX + 1 : 0;
     map->mixing = new_mixing(options->keys, map);
-    map->spread = is_mixed ? 1 : SAMVOLIP_MIX_FACTOR;
     for (unsigned place = 0; place < PLACES; place++)
         map->parts[place].gate = CLOSED;
     pthread_mutex_init(&map->lock, NULL);

@@ -51,7 +51,6 @@ static void walk_on(samvolip_map_walk *walk)
             walk->slot = 0;
         }
     }
-    outer_keys(walk->map, walk->some, walk->count);
 }
 
 int samvolip_map_walk_begin(samvolip_map *map, samvolip_map_walk **made)
@@ -75,7 +74,7 @@ int samvolip_map_walk_next(samvolip_map_walk *walk, uint64_t *key, uint64_t *num
         walk_on(walk);
     bool has_next = walk->at < walk->count;
     if (has_next) {
-        *key = walk->some[walk->at].key;
+        *key = outer_key(walk->map, walk->place > 0, walk->some[walk->at].key);
         *number = walk->some[walk->at++].number;
     }
     go_outside();

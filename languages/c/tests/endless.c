@@ -1271,7 +1271,14 @@ static void walks_stay_through_a_division_and_back(void)
     samvolip_map_free(map);
 }
 
-/* Keys that all belong to one part of a divided map, as it mixes nothing and multiplies by this number to tell the parts. */
+/* Whether a key belongs to the part of number 1 of a divided map that mixes nothing, and has parts by so many bits. */
+static bool is_of_part_1(uint64_t key, unsigned bits)
+{
+    const uint64_t turn = (~key >> (2 + bits)) * UINT64_C(0x9e3779b97f4a7c15) >> (64 - bits);
+    return ((key >> 2 ^ turn) & ((UINT64_C(1) << bits) - 1)) == 1;
+}
+
+/* Keys that all belong to one part of a divided map, which has eight or, built for a test, four. */
 static void keys_of_one_part_are_no_trouble(void)
 {
     enum { COUNT = 40000 };
@@ -1280,7 +1287,7 @@ static void keys_of_one_part_are_no_trouble(void)
     uint64_t *keys = malloc(COUNT * sizeof *keys);
     EXPECT(keys != NULL);
     for (; count < COUNT; key++)
-        if (key * UINT64_C(0x9e3779b97f4a7c15) >> 60 == 5)
+        if (is_of_part_1(key, 3) && is_of_part_1(key, 2))
             keys[count++] = key;
     for (uint64_t i = 0; i < COUNT; i++)
         EXPECT(samvolip_map_put(map, keys[i], i, NULL) == SAMVOLIP_ABSENT);
