@@ -238,7 +238,7 @@ static inline uint64_t outer_key(const samvolip_map *map, bool divided, uint64_t
     return inner;
 }
 
-/* The same for a key that this one stands for in another core, of the map as it was divided before, or wasn't. */
+/* The key that stands in a core for the same as this one does in another: of the map as it was, divided or not, and as it will be. */
 static inline uint64_t moved_key(const samvolip_map *map, bool was_divided, bool divided, uint64_t inner)
 {
     if (was_divided == divided || map->mixes_below > 0)
