@@ -2,3 +2,5 @@
 pub mod CountedLemmas
 pub mod FieldsLemmas
 pub mod ForgottenLemmas
+pub mod NumbersLemmas
+pub mod PrintedLemmas

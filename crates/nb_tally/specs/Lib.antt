@@ -2,4 +2,6 @@
 pub mod Fields
 pub mod Forgotten
 pub mod Limits
+pub mod Numbers
+pub mod Printed
 pub mod Sorting

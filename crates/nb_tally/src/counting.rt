@@ -1,9 +1,10 @@
 //! Counting: workers that share an input and a map.
-ghost use Rattle.std.specs.Prelude.{◌≡◌, ℕ, OnOk, Option};
+ghost use Rattle.std.specs.Prelude.{◌≡◌, ℕ, IfOk, OnOk, Option};
 ghost use Rattle.nb_core.specs.declared.calls.Call.TheVariants as call;
 ghost use Rattle.nb_core.specs.declared.calls.Change.TheVariants as change;
 ghost use Rattle.nb_core.specs.declared.calls.Want.TheVariants as want;
 ghost use Rattle.nb_map.specs.Logs.{HasFound};
+ghost use Rattle.nb_tally.specs.Numbers.{HasCountedAll};
 
 use crate::options::Options;
 use nb_core::{Key, MAX_SEATS, Num};
@@ -47,7 +48,7 @@ where
     progress.end(rt);
     let _lines = input.into_inner().finish()?;
     match handles.pop() {
-        Some(handle) => counts_of(alloc, handle),
+        Some(handle) => Ok(counts_of(alloc, handle)?.0),
         None => Ok(Vec::new(alloc)),
     }
 }
@@ -112,14 +113,18 @@ fn count_one<R: Wait>(rt: &R, handle: &mut Handle, key: Key) -> Result<(), Stop>
     }
 }
 
-/// All counts, by a walk over the map. No other handle writes any more, so it shows all of it.
-fn counts_of(alloc: Global, handle: Handle) -> Result<Vec<Count>, ProgramFault> {
+/// All counts, by a walk over the map, and the handle. No other handle writes any more, so it shows all
+/// of it.
+fn counts_of(alloc: Global, handle: Handle) -> Result<(Vec<Count>, Handle), ProgramFault>
+    ensures { IfOk result (λ done. HasCountedAll handle done.1 done.0.items) }
+{
     let mut counts = Vec::new(alloc);
-    for (key, times) in handle.walk() {
+    let mut walk = handle.walk();
+    while let Some((key, times)) = walk.next_key() {
         counts.push(Count {
             number: number_of(key),
             times: times.get(),
         })?;
     }
-    Ok(counts)
+    Ok((counts, walk.end()))
 }

@@ -1,5 +1,6 @@
 //! `nb_tally` counts how often each line comes on standard input, as `sort | uniq -c` does. That each
-//! distinct line is counted once, and exactly, is the contract of `tally_lines`.
+//! distinct line is counted once, and exactly, is the contract of `tally_lines`; that just these are
+//! printed, in which order and form, that of `print_exactly`.
 //!
 //! With `--numbers` it counts numbers. That shows how threads share a map by handles: each worker takes a block of lines from the input,
 //! which a lock guards, and adds 1 at the key of each number, for which it takes no lock. When all

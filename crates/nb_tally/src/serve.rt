@@ -1,11 +1,20 @@
 //! The program: its words, what it reads and what it prints.
-ghost use Rattle.std.specs.Prelude.{◌≡◌, length};
+ghost use Rattle.std.specs.Prelude.{◌≡◌, ◌⊎◌, ℕ, IfErr, IfOk, IfSome, IsTrue, None, Ok, Some, false, length};
+ghost use Rattle.nb_lines.specs.declared.faults.ProgramFault.TheVariants as fault;
+ghost use Rattle.nb_texts.specs.Forgetting.{AreBounds};
+ghost use Rattle.nb_texts.specs.Lines.{lines_in};
+ghost use Rattle.nb_texts.specs.Memory.{KeepsTo};
+ghost use Rattle.nb_texts.specs.Tallies.{IsTally};
+ghost use Rattle.nb_tally.specs.Fields.{counted_of};
+ghost use Rattle.nb_tally.specs.Forgotten.{FitsNever, HasTallied, TellsFirst};
+ghost use Rattle.nb_tally.specs.Limits.{IsTallyOfFirst, MayNotFit};
+ghost use Rattle.nb_tally.specs.Printed.{HasPrinted};
 
 use crate::counting::tally;
 use crate::lines_counted::{Counted, tally_lines};
-use crate::lines_forgotten::{Missed, RoughTally, RoughlyCounted, tally_roughly};
+use crate::lines_forgotten::{Missed, RoughlyCounted, tally_roughly};
 use crate::options::{LINE, LineOptions, Options, Task, task_of};
-use crate::printing::{print, print_rows, sort, sort_rows};
+use crate::printing::{print_counts, print_rows, sort_rows};
 use nb_lines::{ProgramFault, ProgressMeter};
 use nb_texts::{Hashing, LinePlan, LineTally};
 use std::alloc::Global;
@@ -47,40 +56,90 @@ where
         progress,
     };
     let mut reader = reader;
+    let writer = io::writer(rt);
     if options.forgets {
-        return lines_roughly(rt, options, plan, &mut reader);
+        let (_, counted) = print_roughly(rt, options, plan, &mut reader, writer)?;
+        tell_missed(rt, counted.rough.missed);
+        return counted.taken.ended();
     }
-    let counted = tally_lines(rt, rt.alloc(), plan, options.column, &mut reader);
-    progress.end(rt);
-    let Counted { tally, taken } = counted?;
-    print_tally(rt.alloc(), io::writer(rt), &tally, None, options)?;
-    taken.ended()
+    let (_, counted) = print_exactly(rt, options, plan, &mut reader, writer)?;
+    counted.taken.ended()
 }
 
-/// Counts lines but for the rarest, prints what was counted, and tells what may be missed.
-fn lines_roughly<R, I>(
+/// Counts the lines of a reader and prints them, also where memory ended before the input did. Answers
+/// the writer, and what was counted.
+fn print_exactly<R, I, W>(
     rt: &R,
     options: LineOptions,
     plan: LinePlan,
     reader: &mut I,
-) -> Result<(), ProgramFault>
+    writer: W,
+) -> Result<(W, Counted), ProgramFault>
 where
-    R: Threads + Sync + Wait + Print + Eprint + AllocGlobal,
+    R: Threads + Sync + Wait + Eprint + AllocGlobal,
     I: Read,
+    W: io::Write + Drop,
+    ensures printed { IfOk result (λ done. HasPrinted options None done.1.tally.catalog.texts
+        done.1.tally.counts.items (W.contents writer) (W.contents done.0)) }
+    ensures whole { IfOk result (λ done. IsTrue done.1.taken.is_whole
+        → IfSome (I.remaining reader.old) (λ input. IsTally (counted_of options.column (lines_in input))
+        done.1.tally.catalog.texts done.1.tally.counts.items)) }
+    ensures first { IfOk result (λ done. IfSome (I.remaining reader.old) (λ input.
+        IsTallyOfFirst options.column input done.1.taken.lines done.1.tally.catalog.texts
+        done.1.tally.counts.items)) }
+    ensures unlimited { plan.limit ≡ None → IfOk result (λ done. IsTrue done.1.taken.is_whole) }
+    ensures kept { IfOk result (λ done.
+        KeepsTo plan.limit done.1.taken.lines done.1.tally.catalog) }
+    ensures full { IfOk result (λ done. done.1.taken.is_whole ≡ false
+        → IfSome plan.limit (λ limit. IfSome (I.remaining reader.old) (λ input.
+        MayNotFit options.column limit input done.1.taken.lines done.1.tally.catalog))) }
+{
+    let counted = tally_lines(rt, rt.alloc(), plan, options.column, reader);
+    plan.progress.end(rt);
+    let counted = counted?;
+    let writer = print_tally(rt.alloc(), writer, &counted.tally, None, options)?;
+    Ok((writer, counted))
+}
+
+/// Counts the lines of a reader but for the rarest, and prints them, each with how often it came at
+/// least and at most. Answers the writer, and what was counted.
+fn print_roughly<R, I, W>(
+    rt: &R,
+    options: LineOptions,
+    plan: LinePlan,
+    reader: &mut I,
+    writer: W,
+) -> Result<(W, RoughlyCounted), ProgramFault>
+where
+    R: Threads + Sync + Wait + Eprint + AllocGlobal,
+    I: Read,
+    W: io::Write + Drop,
+    ensures printed { IfOk result (λ done. HasPrinted options (Some done.1.rough.missed.times)
+        done.1.rough.tally.catalog.texts done.1.rough.tally.counts.items
+        (W.contents writer) (W.contents done.0)) }
+    ensures bounds { IfOk result (λ done. IsTrue done.1.taken.is_whole
+        → IfSome (I.remaining reader.old) (λ input. AreBounds done.1.rough.missed.times
+        (counted_of options.column (lines_in input)) done.1.rough.tally.catalog.texts
+        done.1.rough.tally.counts.items)) }
+    ensures first { IfOk result (λ done. IfSome (I.remaining reader.old) (λ input.
+        TellsFirst options.column input done.1.taken.lines done.1.rough)) }
+    ensures made { IfOk result (λ done. IfSome (I.remaining reader.old) (λ input. (most : ℕ)
+        × HasTallied plan.limit options.column input done.1.taken.lines most done.1.rough)) }
+    ensures unlimited { plan.limit ≡ None → IfOk result (λ done. IsTrue done.1.taken.is_whole
+        × (done.1.rough.missed.times ≡ 0)) }
+    ensures kept { IfOk result (λ done.
+        KeepsTo plan.limit done.1.taken.lines done.1.rough.tally.catalog) }
+    ensures never { IfOk result (λ done. done.1.taken.is_whole ≡ false
+        → IfSome plan.limit (λ limit. IfSome (I.remaining reader.old) (λ input.
+        FitsNever options.column limit input done.1.taken.lines done.1.rough.tally.catalog))) }
 {
     let counted = tally_roughly(rt, rt.alloc(), plan, options.column, reader);
     plan.progress.end(rt);
-    let RoughlyCounted { rough, taken } = counted?;
-    let RoughTally { tally, missed } = rough;
-    print_tally(
-        rt.alloc(),
-        io::writer(rt),
-        &tally,
-        Some(missed.times),
-        options,
-    )?;
-    tell_missed(rt, missed);
-    taken.ended()
+    let counted = counted?;
+    let rough = &counted.rough;
+    let missed = Some(rough.missed.times);
+    let writer = print_tally(rt.alloc(), writer, &rough.tally, missed, options)?;
+    Ok((writer, counted))
 }
 
 /// Tells how often lines were forgotten, if they were, and what that means for the counts.
@@ -94,15 +153,18 @@ fn tell_missed<R: Eprint>(rt: &R, missed: Missed) {
     }
 }
 
-/// Prints the lines that are asked for, in the order that is asked for.
+/// Prints the lines that are asked for, in the order that is asked for. Answers the writer.
 fn print_tally<W: io::Write + Drop>(
     alloc: Global,
     writer: W,
     tally: &LineTally,
     missed: Option<u64>,
     options: LineOptions,
-) -> Result<(), ProgramFault>
+) -> Result<W, ProgramFault>
     requires { length tally.now.counts.items ≡ length tally.now.catalog.texts }
+    ensures printed { IfOk result (λ after. HasPrinted options missed tally.now.catalog.texts
+        tally.now.counts.items (W.contents writer) (W.contents after)) }
+    ensures errors { IfErr result (λ told. (told ≡ fault.OutOfMemory) ⊎ (told ≡ fault.Write)) }
 {
     let mut rows = tally.rows(alloc)?;
     sort_rows(alloc, &mut rows, &options);
@@ -110,7 +172,9 @@ fn print_tally<W: io::Write + Drop>(
 }
 
 /// The key of the hash function: the one that is given, or else one from the machine's randomness.
-fn seed_of<R: RandomSource>(rt: &R, options: LineOptions) -> Result<u64, ProgramFault> {
+fn seed_of<R: RandomSource>(rt: &R, options: LineOptions) -> Result<u64, ProgramFault>
+    ensures { IfSome options.seed (λ seed. result ≡ Ok seed) }
+{
     match options.seed {
         Some(seed) => Ok(seed),
         None => random(rt),
@@ -137,7 +201,7 @@ where
     R: Threads + Sync + Wait + Print + Eprint + AllocGlobal,
     I: Read + Send + Drop,
 {
-    let mut counts = tally(rt, rt.alloc(), &options, reader, progress)?;
-    sort(&mut counts, options.top);
-    print(rt.alloc(), io::writer(rt), counts.as_slice())
+    let counts = tally(rt, rt.alloc(), &options, reader, progress)?;
+    print_counts(rt.alloc(), io::writer(rt), counts, options.top)?;
+    Ok(())
 }

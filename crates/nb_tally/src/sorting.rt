@@ -1,12 +1,21 @@
-//! Rows in the order of their lines.
+//! Rows in the order of their lines, or of their counts.
 ghost use Rattle.std.specs.List.Sorted.{IsPermutation, IsSorted};
-ghost use Rattle.nb_tally.specs.Sorting.{row_cmp};
+ghost use Rattle.nb_tally.specs.Sorting.{count_cmp, row_cmp};
 
 use nb_texts::Row;
 use std::alloc::Global;
+use std::cmp::Reverse;
 
 /// How many bytes are one number.
 const WORD: usize = 8;
+
+/// Sorts rows by their counts, the greatest first, and rows of one count by their first coming.
+pub(crate) fn sort_by_count(rows: &mut [Row<'_>])
+    ensures same { IsPermutation rows.old rows.new }
+    ensures sorted { IsSorted count_cmp rows.new }
+{
+    rows.sort_unstable_by_key(|row| (Reverse(row.times), row.place));
+}
 
 /// Sorts rows by their lines. To compare two lines takes long, since each is somewhere else in
 /// memory. So, where there is memory for it, numbers that stand beside one another are compared

@@ -1,4 +1,4 @@
-use Rattle.std.proofs.Common.{◌≡◌, ap, arith, false, refl, rules, subst}
+use Rattle.std.proofs.Common.{◌≡◌, ap, arith, refl, subst}
 use Rattle.std.specs.Bool.{OnFalse}
 use Rattle.std.specs.Prelude.{vec_items}
 use Rattle.nb_texts.specs.declared.catalog.Catalog.{Catalog}

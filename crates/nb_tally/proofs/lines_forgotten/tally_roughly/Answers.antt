@@ -1,10 +1,10 @@
-use Rattle.std.proofs.Common.{◌≡◌, ◌∙◌, ◌+◌, ◌*◌, ◌^◌, ◌<◌, ◌≤◌, ◌++◌, ℕ, Err, IfSome, List, ap, arith, false, inl, inr, length, refl, rules, subst, sym, true}
+use Rattle.std.proofs.Common.{◌≡◌, ◌∙◌, ◌+◌, ◌^◌, ◌<◌, ◌≤◌, ◌++◌, ℕ, Err, IfSome, List, ap, arith, false, inl, inr, length, refl, rules, subst, sym, true}
 use Rattle.std.proofs.lemmas.Bool.Decides.{nat_tests}
 use Rattle.std.proofs.lemmas.Grind.{common_steps}
 use Rattle.std.proofs.lemmas.Result.{err_from_is_err_and}
 use Rattle.std.specs.Result.{result_err}
 use Rattle.std.specs.Bool.{OnFalse, OnTrue}
-use Rattle.std.specs.Prelude.{max, unwrap_or}
+use Rattle.std.specs.Prelude.{unwrap_or}
 use Rattle.nb_core.specs.declared.shapes.TheConstants.{MOST_KEYS}
 use Rattle.nb_lines.specs.declared.faults.ProgramFault.TheVariants as fault
 use Rattle.nb_texts.proofs.Theorems.{kept-more, kept-none, no-more-room, none-in-line, unlimited, with-few}

@@ -1,4 +1,4 @@
-use Rattle.std.proofs.Common.{◌≡◌, ◌^◌, ◌≤◌, Err, ap, arith, rules, subst, sym}
+use Rattle.std.proofs.Common.{ap, arith, subst, sym}
 use Rattle.nb_texts.proofs.Theorems.{within-above, within-middle}
 use Rattle.nb_texts.specs.Forgetting.{IsTallyWithin, lines_above}
 use Rattle.nb_tally.specs.declared.lines_forgotten.Missed.{Missed}
