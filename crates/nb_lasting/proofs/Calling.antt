@@ -26,6 +26,7 @@ use Rattle.nb_lasting.proofs.Sharing.{known-of, log-as-events}
 use Rattle.nb_lasting.specs.Epochs.{HasGoneOnBy}
 use Rattle.nb_lasting.specs.Holding.{CanGive, HasCalledIn, HasWrittenIn, IsIdleGuest, IsJustIn}
 use Rattle.nb_lasting.specs.Shared.{EpochIn, HasGiven, HasTaken, KnowsIn, as_events, known_in, known_of, rest_outs, account_in}
+use Rattle.nb_lasting.specs.Lasting.{HasSlots}
 use Rattle.nb_lasting.specs.Visits.{HasVisited, gave}
 use Rattle.nb_lasting.specs.declared.shared.LaneView.{LaneView}
 
@@ -150,6 +151,8 @@ module _
       there = taken.handle;
       back = handle;
       own = taken.one.number;
+      room = subst (λ (m : MapOf). HasSlots before.0.account.keys m.chain.shape)
+          (sym taken.one.map) taken.room;
       account = ap (λ (v : LaneView). v.account) given.0
           ∙ ap (λ (m : Me (Option HandleOf) LaneView). account_in m.1 m.0.account) is
           ∙ ap (gave handle) taken.account;

@@ -21,7 +21,7 @@ use Rattle.nb_lasting.specs.Epochs.{HasGoneOnBy}
 use Rattle.nb_lasting.specs.Gathered.{HaveTooMany, IsPartedCounted}
 use Rattle.nb_lasting.specs.Holding.{HasCalledIn, IsIdleGuest}
 use Rattle.nb_lasting.specs.Renewal.{AreHeld, AreStill, CanComeHome, HasBegunAs, HasRoomAnew, KnowOneLog, HoldsStill, IsFullAt, blanks, down}
-use Rattle.nb_lasting.specs.Visits.{HasMadeMapAnew, SharedOf, keys_known}
+use Rattle.nb_lasting.specs.Visits.{HasMadeMapAnew, SharedOf, keys_known, least_anew}
 use Rattle.nb_lasting.specs.declared.shared.Account.{Account}
 use Rattle.nb_lasting.specs.declared.shared.LaneView.{LaneView}
 use Rattle.nb_lasting.specs.Lasting.{HasSlots}
@@ -184,7 +184,7 @@ module _
   -- so it is in the account
   pub made-anew :
       (result : Result ℕ SettleFault) → IsPartedCounted before after result → (size : ℕ)
-      → result ≡ Ok size → (p : Plan) (keys : ℕ) (of : SharedOf) → keys ≡ max (2 * size) of.least
+      → result ≡ Ok size → (p : Plan) (keys : ℕ) (of : SharedOf) → keys ≡ max (2 * size) (least_anew of)
       → HasSlots keys p → (a b : Account) → HasBegunAs p after a b → HasMadeMapAnew of a b
   made-anew result is size counted p keys of twice room a b begun =
       let known = still-by result is in
@@ -196,8 +196,9 @@ module _
       record {
         first = begun.first;
         account = begun.account;
-        room = subst (HasSlots (max (2 * keys_known begun.first) of.least)) (sym begun.shape)
-            (subst (λ k. HasSlots k p) (twice ∙ ap (λ k. max (2 * k) of.least) (sym same)) room);
+        room = subst (HasSlots (max (2 * keys_known begun.first) (least_anew of))) (sym begun.shape)
+            (subst (λ k. HasSlots k p) (twice ∙ ap (λ k. max (2 * k) (least_anew of)) (sym same)) room);
+        claimed = begun.claimed;
       }
 
   -- all have one log

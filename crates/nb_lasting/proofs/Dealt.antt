@@ -1,6 +1,6 @@
 -- What a renewer's token holds, from step to step.
 use Rattle.std.proofs.Common.{◌≡◌, ◌≢◌, ◌∙◌, ◌+◌, ◌++◌, ◌<◌, ◌≤◌, ◌⊎◌, ℕ, zero, suc, List, [], ◌∷◌, All, Some, ap, inl, inr, length, length-append, refl, slice_get, subst, sym, arith}
-use Rattle.std.specs.Prelude.{Err, IfOk, None, Ok, OnOk, Option, Result, ⊤, unwrap_or}
+use Rattle.std.specs.Prelude.{Err, IfErr, IfOk, None, Ok, OnOk, Option, Result, ⊤, unwrap_or}
 use Rattle.std.proofs.lemmas.Option.{slice_get_within}
 use Rattle.atomic_table.specs.Table.{Me, rest}
 use Rattle.nb_core.specs.Log.{Entry, log_of}
@@ -20,11 +20,13 @@ use Rattle.nb_lasting.proofs.Refused.{renewed-all}
 use Rattle.nb_lasting.proofs.Renewed.{all-from, at-all}
 use Rattle.nb_lasting.specs.Gathered.{AreSingle, IsPartedAnew, IsSingle}
 use Rattle.nb_lasting.specs.Renewal.{AreHeld, AreRenewed, CanComeHome, CanDealAnew, CanDealBelow, KnowOneLog, HoldsBelow, HoldsStill, IsIdleToken, blanks, down}
-use Rattle.nb_lasting.specs.Shared.{Has, HasBegunAnew, HasDealt, HasGiven, HasTaken, Holds, IsCurrent, IsLane, IsOfGuest, FitsLanes, KnowsIn, all_knew, as_guest, given, known_in, known_of, log_in, map_in, rest_outs, account_in, begun_in, times_out}
+use Rattle.nb_lasting.specs.Shared.{Has, HasBegunAnew, HasDealt, HasGiven, HasTaken, Holds, IsCurrent, IsKnownOrHasSlots, IsLane, IsOfGuest, FitsLanes, KnowsIn, all_knew, as_guest, given, known_in, known_of, log_in, map_in, rest_outs, account_in, begun_in, times_out}
+use Rattle.nb_lasting.specs.Lasting.{HasSlots}
 use Rattle.nb_lasting.specs.Visits.{began, gave}
 use Rattle.nb_lasting.specs.declared.shared.Account.{Account}
 use Rattle.nb_lasting.specs.declared.shared.Out.{Out}
 use Rattle.nb_lasting.specs.declared.shared.LaneView.{LaneView}
+use Rattle.nb_lasting.specs.declared.shared.Opened.{Opened}
 
 -- ---- lists
 
@@ -438,7 +440,8 @@ module _
   }
 
   pub can-renew :
-      (p : Plan) → lane + 1 ≡ p.seats → CanDealAnew (lane + 1) me before → CanRenew p lane new
+      (p : Opened) → lane + 1 ≡ p.seats → CanDealAnew p.keys (lane + 1) me before
+      → CanRenew p lane new
   can-renew p last can =
       let one = (popped lane can.anew.shared can.anew.next.filled can.anew.next.past
       (λ _. can.anew.next.past) handles before handle popped-is can.anew.held).1 in
@@ -455,6 +458,9 @@ module _
           number = one.0.number;
           alone = one.0.alone;
           fits = ap (λ (m : MapOf). m.chain.shape.seats) one.0.map ∙ can.anew.fits ∙ last;
+          room = subst (λ (known : MapOf). IsKnownOrHasSlots p.keys known handle.map)
+              (sym (ap (λ (v : LaneView). v.map) new-view))
+              (subst (IsKnownOrHasSlots p.keys me.0.map) (sym one.0.map) can.room);
           made = subst (λ n. All (IsOfGuest n) (log_of can.anew.next.past)) last can.anew.made;
           knows = one.1;
           all = λ i below. subst (λ (outs : List Out). 1 ≤ times_out i outs) (sym outs)
@@ -485,16 +491,16 @@ module _
       ∙ ap (λ (v : LaneView). began handle v.account) new-view
 
   pub begun-map :
-      (can : CanDealAnew (lane + 1) me before) → HasBegunAnew new after
+      (keys : ℕ) (can : CanDealAnew keys (lane + 1) me before) → HasBegunAnew new after
       → after.0.map ≡ can.anew.shared
-  begun-map can gone =
+  begun-map keys can gone =
       let both = popped lane can.anew.shared can.anew.next.filled can.anew.next.past
       (λ _. can.anew.next.past) handles before handle popped-is can.anew.held in
       ap (λ (v : LaneView). v.map) gone.3 ∙ ap (map_in new.0.map) new-slot ∙ both.1.0.map
 
   pub begun :
-      CanDealAnew (lane + 1) me before → HasBegunAnew new after → CanDealBelow lane after handles
-  begun can gone =
+      (keys : ℕ) → CanDealAnew keys (lane + 1) me before → HasBegunAnew new after → CanDealBelow lane after handles
+  begun keys can gone =
       let next = gone.0 in
       let both = popped lane can.anew.shared can.anew.next.filled can.anew.next.past
       (λ _. can.anew.next.past) handles before handle popped-is can.anew.held in
@@ -651,21 +657,29 @@ abbrev pub still-single :
 still-single n me handles some few holds =
     all-single n me.0.map me.0.filled me.0.past holds.still.know handles some few holds.still.held
 
+-- a map that was made anew has the slots of its shape, and one that was not is the same
+has-room :
+    (result : Result ⊤ RenewFault) (keys : ℕ) (p : Plan) (known m : MapOf) → HasSlots keys p
+    → IfOk result (λ done. m.chain.shape ≡ p) → IfErr result (λ fault. m ≡ known)
+    → IsKnownOrHasSlots keys known m
+has-room (Ok done) keys p known m room shape same = inr (subst (HasSlots keys) (sym shape) room)
+has-room (Err fault) keys p known m room shape same = inl same
+
 module _
     (p : Plan) (me : Me (Option HandleOf) LaneView) (before after : List HandleOf)
     (some : 1 ≤ p.seats)
     (few : p.seats ≤ 256) (seated : FitsLanes p.seats me.0) (holds : HoldsStill p.seats me before)
-    (settled : KnowOneLog before) where
+    (settled : KnowOneLog before) (keys : ℕ) (room : HasSlots keys p) where
   -- what a renewal makes of them
   pub deals :
       (result : Result ⊤ RenewFault) → IsPartedAnew p before after result
       → (length after ≡ p.seats)
-      × ((can : CanDealAnew (length after) me after)
+      × ((can : CanDealAnew keys (length after) me after)
       × IfOk result (λ done. can.anew.shared.chain.shape ≡ p))
   deals result is =
       let count = anew.0.held.count in (
         count,
-        subst (λ n. (can : CanDealAnew n me after)
+        subst (λ n. (can : CanDealAnew keys n me after)
             × IfOk result (λ done. can.anew.shared.chain.shape ≡ p))
             (sym count) (
               record {
@@ -683,6 +697,7 @@ module _
                       (log_of anew.0.next.past) [] [] (holds.still.gone i below)
                       (anew.0.met i below);
                 };
+                room = has-room result keys p me.0.map anew.0.shared room anew.1 anew.2;
               },
               anew.1,
             ),
@@ -700,7 +715,7 @@ module _
           before)
           begun.1 holds.still.held)
 
-      anew : AreRenewed p holds.still.know after result
+      anew : AreRenewed p me.0.map holds.still.know after result
       anew =
           renewed-all p me.0.map holds.epoch holds.still.know before after some seated.fits
           (subst (λ (l : List Event). All (IsOfGuest p.seats) (log_of l)) begun.1 seated.made) held

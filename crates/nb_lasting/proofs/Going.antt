@@ -1,5 +1,5 @@
 -- How a write goes on with all handles.
-use Rattle.std.proofs.Common.{◌≡◌, ◌≢◌, ◌∙◌, ℕ, List, Some, ap, refl, slice_get, subst, sym}
+use Rattle.std.proofs.Common.{◌≡◌, ◌≢◌, ◌∙◌, ℕ, List, ap, refl, slice_get, subst, sym}
 use Rattle.std.specs.Prelude.{Err, None, Ok, Option, Result}
 use Rattle.atomic_table.specs.Table.{Me}
 use Rattle.nb_core.specs.declared.calls.Call.{Call}

@@ -1,15 +1,15 @@
 -- A token hands its guest's place on to a new one.
-use Rattle.std.proofs.Common.{◌≡◌, ◌≢◌, ◌∙◌, ◌++◌, ◌<◌, ◌⊎◌, ℕ, zero, suc, List, [], ◌∷◌, Some, ap, inl, inr, length, refl, slice_set, subst, sym}
+use Rattle.std.proofs.Common.{◌≡◌, ◌≢◌, ◌∙◌, ◌++◌, ◌<◌, ◌≤◌, ◌⊎◌, ℕ, zero, suc, List, [], ◌∷◌, Some, ap, inl, inr, length, refl, slice_set, subst, sym}
 use Rattle.std.specs.Prelude.{None, Option}
 use Rattle.std.proofs.lemmas.List.{length-set}
 use mathlib.Core.Option.{some, some-injective, some-ne-none}
 use lib.ListN.{get_elem?}
 use Rattle.atomic_table.proofs.Lists.{at_set}
 use Rattle.atomic_table.specs.Table.{Splits}
-use Rattle.nb_core.specs.Plans.{Plan}
 use Rattle.nb_lasting.proofs.Sharing.{holders_more, holders_same}
 use Rattle.nb_lasting.specs.Shared.{Has, IsOfMap, IsOneLog, LaneMoment, guest_alone, guest_left}
 use Rattle.nb_lasting.specs.declared.shared.LaneView.{LaneView}
+use Rattle.nb_lasting.specs.declared.shared.Opened.{Opened}
 use Rattle.nb_lasting.specs.declared.shared.Out.{Out}
 
 at_end :
@@ -26,7 +26,7 @@ at_end (x ∷ xs) w u (suc i) found = later (at_end xs w u i found)
     later (inr (is, same)) = inr (ap suc is, same)
 
 module _
-    (p : Plan) (id : ℕ) (v : LaneView) (s : LaneMoment) (rule : IsOneLog p s)
+    (p : Opened) (id : ℕ) (v : LaneView) (s : LaneMoment) (rule : IsOneLog p s)
     (at : get_elem? s.views id ≡ some v) where
   abbrev views-then : List LaneView
   views-then = slice_set s.views id (guest_left v) ++ guest_alone v ∷ []
@@ -66,6 +66,8 @@ module _
     seen = rule.seen;
     dealt = rule.dealt;
     fits = rule.fits;
+    room = rule.room;
+    asked = asked;
     made = rule.made;
     count = rule.count;
     long = rule.long;
@@ -85,6 +87,18 @@ module _
     one_dealer = one-dealer;
   }
     where
+      asked : (k : ℕ) (u : LaneView) → get_elem? views-then k ≡ some u → u.account.keys ≤ p.keys
+      asked k u found =
+          elim (was k u found) [
+            | inl new ↦
+                subst (λ (x : LaneView). x.account.keys ≤ p.keys) new.1 (rule.asked id v at)
+            | inr there ↦ elim there [
+              | inl mine ↦
+                  subst (λ (x : LaneView). x.account.keys ≤ p.keys) mine.1 (rule.asked id v at)
+              | inr old ↦ rule.asked k u old.1
+            ]
+          ]
+
       held : (k : ℕ) (u : LaneView) → get_elem? views-then k ≡ some u → u.outs ≢ []
           → IsOfMap rule.shared rule.epoch u
       held k u found some-lane =
@@ -194,5 +208,5 @@ module _
           ]
 
 pub hands :
-    (p : Plan) (id : ℕ) (v : LaneView) → Splits (IsOneLog p) id v (guest_left v) (guest_alone v)
+    (p : Opened) (id : ℕ) (v : LaneView) → Splits (IsOneLog p) id v (guest_left v) (guest_alone v)
 hands p id v s rule at = hand-keeps p id v s rule at

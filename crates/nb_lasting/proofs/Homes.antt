@@ -1,6 +1,5 @@
 -- What an account gains as all handles go home.
-use Rattle.std.proofs.Common.{◌≡◌, ◌≢◌, ◌∙◌, ◌+◌, ◌++◌, ◌<◌, ◌≤◌, ◌∷◌, ◌⊎◌, ℕ, zero, suc, List, [], Some, ap, arith, inl, inr, length, length-append, refl, slice_get, subst, sym}
-use Rattle.std.specs.Prelude.{Option}
+use Rattle.std.proofs.Common.{◌≡◌, ◌∙◌, ◌+◌, ◌++◌, ◌<◌, ◌≤◌, ◌∷◌, ℕ, zero, suc, List, [], Some, ap, arith, inl, inr, length, length-append, refl, slice_get, subst, sym}
 use Rattle.std.proofs.lemmas.List.{append_assoc}
 use Rattle.std.proofs.lemmas.Option.{slice_get_within}
 use Rattle.nb_map.specs.Handles.{HandleOf}

@@ -1,18 +1,18 @@
 -- A token takes the place of another, which makes no call.
-use Rattle.std.proofs.Common.{◌≡◌, ◌≢◌, ◌∙◌, ◌<◌, ◌⊎◌, ℕ, List, [], Some, ap, inl, inr, refl, slice_set, subst, sym}
+use Rattle.std.proofs.Common.{◌≡◌, ◌≢◌, ◌∙◌, ◌<◌, ◌≤◌, ◌⊎◌, ℕ, List, [], Some, ap, inl, inr, refl, slice_set, subst, sym, arith}
 use Rattle.std.specs.Prelude.{None, Option}
 use mathlib.Core.Option.{some}
 use lib.ListN.{get_elem?}
 use Rattle.atomic_table.proofs.Lists.{at_set, set_else}
 use Rattle.atomic_table.specs.Table.{Joins}
-use Rattle.nb_core.specs.Plans.{Plan}
 use Rattle.nb_lasting.proofs.Sharing.{holders_same}
 use Rattle.nb_lasting.specs.Shared.{Has, IsOfMap, IsOneLog, LaneMoment, as_guest, nobody}
 use Rattle.nb_lasting.specs.declared.shared.LaneView.{LaneView}
+use Rattle.nb_lasting.specs.declared.shared.Opened.{Opened}
 use Rattle.nb_lasting.specs.declared.shared.Out.{Out}
 
 module _
-    (p : Plan) (id other : ℕ) (v w : LaneView) (idle : w.outs ≡ []) (s : LaneMoment)
+    (p : Opened) (id other : ℕ) (v w : LaneView) (idle : w.outs ≡ []) (s : LaneMoment)
     (rule : IsOneLog p s) (at : get_elem? s.views id ≡ some v) (apart : other ≢ id)
     (at-then : get_elem? (slice_set s.views id (as_guest v w)) other ≡ some w) where
   abbrev views-then : List LaneView
@@ -66,6 +66,8 @@ module _
     seen = rule.seen;
     dealt = rule.dealt;
     fits = rule.fits;
+    room = rule.room;
+    asked = asked;
     made = rule.made;
     count = rule.count;
     long = rule.long;
@@ -85,6 +87,18 @@ module _
     one_dealer = one-dealer;
   }
     where
+      asked : (k : ℕ) (u : LaneView) → get_elem? views-then k ≡ some u → u.account.keys ≤ p.keys
+      asked k u found =
+          elim (was k u found) [
+            | inl spent ↦
+                subst (λ (x : LaneView). x.account.keys ≤ p.keys) spent (omega arith)
+            | inr there ↦ elim there [
+              | inl mine ↦
+                  subst (λ (x : LaneView). x.account.keys ≤ p.keys) mine.1 (rule.asked id v at)
+              | inr old ↦ rule.asked k u old.2
+            ]
+          ]
+
       held : (k : ℕ) (u : LaneView) → get_elem? views-then k ≡ some u → u.outs ≢ []
           → IsOfMap rule.shared rule.epoch u
       held k u found some-lane =
@@ -192,7 +206,7 @@ module _
           ]
 
 pub merges :
-    (p : Plan) (id other : ℕ) (v w : LaneView) → w.outs ≡ []
+    (p : Opened) (id other : ℕ) (v w : LaneView) → w.outs ≡ []
     → Joins (IsOneLog p) id v other w (as_guest v w) nobody
 merges p id other v w idle s rule at apart at-then =
     merge-keeps p id other v w idle s rule at apart at-then

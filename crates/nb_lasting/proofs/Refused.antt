@@ -258,27 +258,31 @@ module _
       (All-left (IsOfGuest n) (knows-at 0 some).later (log_of e.filled) of-base) old)
 
   -- so they begin an epoch of that map, which goes on from it
-  pub rested-anew : AreAnew n knew (map (handle_on whole.map) (seats_of whole))
+  pub rested-anew :
+      (anew : AreAnew n knew (map (handle_on whole.map) (seats_of whole))) × (anew.shared ≡ m)
   unfolding next
-  rested-anew = record {
-    shared = m;
-    next = next;
-    fits = fits;
-    made = past-made;
-    held = record {
-      count = length-map (seats_of whole) (handle_on whole.map)
-          ∙ sym (length-zip (HasCaughtUp rested.tried.map total) (seats_of rested.tried)
-          (seats_of whole) rested.settled.each)
-          ∙ long;
-      each = each;
-    };
-    met = λ i below. record {
-      later = [];
-      grown = sym (knew-one i below);
-      replayed = next.replayed;
-      own = refl;
-    };
-  }
+  rested-anew = (
+    record {
+      shared = m;
+      next = next;
+      fits = fits;
+      made = past-made;
+      held = record {
+        count = length-map (seats_of whole) (handle_on whole.map)
+            ∙ sym (length-zip (HasCaughtUp rested.tried.map total) (seats_of rested.tried)
+            (seats_of whole) rested.settled.each)
+            ∙ long;
+        each = each;
+      };
+      met = λ i below. record {
+        later = [];
+        grown = sym (knew-one i below);
+        replayed = next.replayed;
+        own = refl;
+      };
+    },
+    refl,
+  )
     where
       each :
           (i : ℕ) (h : HandleOf) → slice_get (map (handle_on whole.map) (seats_of whole)) i ≡ Some h
@@ -313,13 +317,14 @@ module _
     (single : AreSingle before) where
   pub renewed-all :
       (result : Result ⊤ RenewFault) → single.shared ≡ m → IsPartedAnew p before after result
-      → AreRenewed p knew after result
+      → AreRenewed p m knew after result
   renewed-all (Ok done) one is =
-      subst (λ hs. (anew : AreAnew p.seats knew hs) × (anew.shared.chain.shape ≡ p)) (sym is.parted)
-      (anew p m e knew before old held is.joined is.whole is.seats is.renewed)
-  renewed-all (Err fault) one is = (
-    subst (AreAnew p.seats knew) (sym is.parted)
-        (rested-anew p.seats m e knew before some fits old held settled is.joined is.whole
-        (is.one_map single ∙ one) is.seats is.rested),
-    tt,
-  )
+      let both = subst (λ hs. (anew : AreAnew p.seats knew hs) × (anew.shared.chain.shape ≡ p))
+      (sym is.parted)
+      (anew p m e knew before old held is.joined is.whole is.seats is.renewed) in
+      (both.0, both.1, tt)
+  renewed-all (Err fault) one is =
+      let both = subst (λ hs. (anew : AreAnew p.seats knew hs) × (anew.shared ≡ m)) (sym is.parted)
+      (rested-anew p.seats m e knew before some fits old held settled is.joined is.whole
+      (is.one_map single ∙ one) is.seats is.rested) in
+      (both.0, tt, both.1)

@@ -20,7 +20,9 @@ use Rattle.nb_core.specs.declared.events.Event.{Event}
 use Rattle.nb_core.specs.declared.shapes.TheConstants.{MAX_EXPONENT}
 use Rattle.nb_table.specs.Chains.{SeenBy}
 use Rattle.nb_table.specs.Views.{HasSeen}
-use Rattle.nb_map.specs.Ending.{EndedOf, EndedWith, HasAll, log_left}
+use Rattle.nb_map.specs.Bulk.{put_entry}
+use Rattle.nb_map.specs.Crowding.{HasAskedFor}
+use Rattle.nb_map.specs.Ending.{EndedOf, EndedWith, HasAll, log_left, map_left}
 use Rattle.nb_map.specs.Handles.{HandleOf, IsSameMap, handle_on, seats_of}
 use Rattle.nb_map.specs.Logs.{HasLogged, log}
 use Rattle.nb_map.specs.Maps.{MapOf, SeatOf, new_seat, new_seats}
@@ -36,6 +38,7 @@ use Rattle.nb_lasting.specs.Gathered.{HaveTooMany, IsPartedAnew, IsPartedCounted
 use Rattle.nb_lasting.specs.Lasting.{HasSlots}
 use Rattle.nb_lasting.specs.Renewal.{AreAnew, AreHeld, AreStill, HasBegunAs, HasBegunBy}
 use Rattle.nb_lasting.specs.Shared.{EpochIn, IsLane, IsOfGuest, KnowsIn, as_events, known_of}
+use Rattle.nb_lasting.specs.Visits.{HasClaimedForItsKeys}
 use Rattle.nb_lasting.specs.declared.shared.Account.{Account}
 
 -- ---- lists by index
@@ -498,12 +501,14 @@ begun-as p n m filled past know before after a b (Ok done) some held is begun = 
   first = begun.first;
   account = begun.account;
   shape = ap (λ (h : HandleOf). h.map.chain.shape) seat.2 ∙ is.renewed.begun.made.shape;
+  claimed = subst HasClaimedForItsKeys (sym seat.2)
+      (subst (λ content. HasAskedFor is.whole.map.chain.shape
+      (map put_entry (numbers.entries content)) seat.0.chain) (sym as-left)
+      (at-all (λ (s : SeatOf). HasAskedFor is.whole.map.chain.shape
+      (map put_entry (numbers.entries (map_left is.renewed.ended))) s.chain) (seats_of is.whole)
+      begun.place seat.0 is.renewed.begun.begun.claimed seat.1));
   same = λ one.
-      ap (λ (h : HandleOf). map_of_log (log h.seat)) seat.2
-      ∙ ap map_of_log
-      (at-all (λ s. log s ≡ is.renewed.begun.begun.whole) (seats_of is.whole) begun.place seat.0
-      is.renewed.begun.begun.logs seat.1)
-      ∙ is.renewed.begun.begun.leaves
+      ap (λ (h : HandleOf). map_of_log (log h.seat)) seat.2 ∙ as-left
       ∙ ap map_of_log
       (one-left (seats_of_each before) one.whole first is.renewed.ended left at (λ i s here.
       let h = handle-at before i s here in (
@@ -518,6 +523,13 @@ begun-as p n m filled past know before after a b (Ok done) some held is begun = 
     seat =
         mapped-at is.whole.map (seats_of is.whole) begun.place begun.first
         (ap (λ l. slice_get l begun.place) (sym is.parted) ∙ begun.there)
+
+    as-left : map_of_log (log seat.0) ≡ map_left is.renewed.ended
+    as-left =
+        ap map_of_log
+        (at-all (λ s. log s ≡ is.renewed.begun.begun.whole) (seats_of is.whole) begun.place seat.0
+        is.renewed.begun.begun.logs seat.1)
+        ∙ is.renewed.begun.begun.leaves
 
     first : SeatOf
     first = get_or (seats_of_each before) 0 is.joined.seat

@@ -12,17 +12,19 @@ use Rattle.atomic_table.proofs.Lists.{at_set, exchanged, set_again, set_else, se
 use Rattle.atomic_table.specs.Table.{Act, Allows, Me, Splits, Valid, carried_after, gives, keeps, opening, rest, step, stepped, takes}
 use Rattle.nb_core.specs.Log.{Entry, IsReplayed, log_of}
 use Rattle.nb_core.specs.declared.events.Event.{Event}
-use Rattle.nb_core.specs.Plans.{Plan}
 use Rattle.nb_map.specs.Handles.{HandleOf}
 use Rattle.nb_map.specs.Logs.{log}
 use Rattle.nb_map.specs.Maps.{MapOf, SeatOf}
 use Rattle.nb_lasting.proofs.Epochs.{goes_on}
+use Rattle.nb_lasting.proofs.Sizes.{slots_fewer}
 use Rattle.nb_lasting.specs.Epochs.{HasGoneOnBy}
+use Rattle.nb_lasting.specs.Lasting.{HasSlots}
 use Rattle.nb_lasting.specs.declared.shared.Account.{Account}
 use Rattle.nb_lasting.specs.declared.shared.Out.{Out}
 use Rattle.nb_lasting.specs.declared.shared.LaneView.{LaneView}
+use Rattle.nb_lasting.specs.declared.shared.Opened.{Opened}
 use Rattle.nb_lasting.specs.Visits.{began, gave, took}
-use Rattle.nb_lasting.specs.Shared.{Deals, EpochIn, Gives, IsOfGuest, Marks, FitsLanes, Renews, as_events, dealer_left, first_lane_view, new_guest, next_dealer, known_of, rest_outs, Has, HasTaken, Holds, HoldsAnew, IsOfMap, IsCurrent, IsLane, IsOneLog, KnowsIn, LaneMoment, Takes, absent, all_knew, given, given_anew, holders, times_out, word_of}
+use Rattle.nb_lasting.specs.Shared.{Deals, EpochIn, Gives, IsOfGuest, Marks, FitsLanes, Renews, as_events, dealer_left, first_lane_view, new_guest, next_dealer, known_of, rest_outs, Has, HasTaken, Holds, HoldsAnew, IsOfMap, IsCurrent, IsKnownOrHasSlots, IsLane, IsOneLog, KnowsIn, LaneMoment, Takes, absent, all_knew, given, given_anew, holders, times_out, word_of}
 
 abbrev Homes : Type 0
 Homes = List (maths.Option (Option HandleOf))
@@ -165,7 +167,7 @@ current_here i seen replayed =
 -- ---- a lane is taken
 
 module _
-    (p : Plan) (s : LaneMoment) (rule : IsOneLog p s) (id : ℕ) (me : Me (Option HandleOf) LaneView)
+    (p : Opened) (s : LaneMoment) (rule : IsOneLog p s) (id : ℕ) (me : Me (Option HandleOf) LaneView)
     (at : get_elem? s.views id ≡ some me.0) (lane : ℕ) (within : lane < p.seats) (out : ℕ)
     (is-out : out ≢ 0) (handle : HandleOf) where
   out-taken : Out
@@ -191,6 +193,8 @@ module _
     epoch = rule.epoch;
     current = rule.current;
     fits = rule.fits;
+    room = rule.room;
+    asked = asked;
     made = rule.made;
     count = length-set s.homes lane none ∙ rule.count;
     long = length-set s.words (word_of lane) out ∙ rule.long;
@@ -210,6 +214,17 @@ module _
     one_dealer = one-dealer;
   }
     where
+      asked :
+          (id' : ℕ) (v : LaneView) → get_elem? (slice_set s.views id taken) id' ≡ some v
+          → v.account.keys ≤ p.keys
+      asked id' v found = by (at_set s.views id id' taken v found)
+        where
+          by : ((id' ≡ id) × (taken ≡ v)) ⊎ ((id' ≢ id) × (get_elem? s.views id' ≡ some v))
+              → v.account.keys ≤ p.keys
+          by (inl (_, is)) =
+              subst (λ (x : LaneView). x.account.keys ≤ p.keys) is (rule.asked id me.0 at)
+          by (inr (_, old)) = rule.asked id' v old
+
       here : get_elem? (slice_set s.homes lane none) lane ≡ some none
       here = set_here s.homes lane none (omega (arith, within, rule.count))
 
@@ -342,7 +357,7 @@ module _
           rule.one_dealer id' other x.0 y.0 d d' x.1 y.1 (x.3 ∙ deals) (y.3 ∙ deals')
 
 module _
-    (p : Plan) (s : LaneMoment) (rule : IsOneLog p s) (id : ℕ) (me : Me (Option HandleOf) LaneView)
+    (p : Opened) (s : LaneMoment) (rule : IsOneLog p s) (id : ℕ) (me : Me (Option HandleOf) LaneView)
     (at : get_elem? s.views id ≡ some me.0) (lane : ℕ) (within : lane < p.seats) (out : ℕ)
     (is-out : out ≢ 0) where
   same-state : IsOneLog p (stepped s (word_of lane) (slice_index s.words
@@ -395,6 +410,8 @@ module _
                   begun = (refl, refl);
                   guest = (refl, refl, refl);
                   account = refl;
+                  room = slots_fewer rule.shared.chain.shape me.0.account.keys p.keys
+                      (rule.asked id me.0 at) rule.room;
                   mine = λ own. subst (λ l. IsCurrent lane l (rule.current lane))
                       (sym (rule.guests id me.0 lane at own).1) (rule.goes lane within);
                   same = λ some-lane.
@@ -418,7 +435,7 @@ module _
   miss slots not = (me.0, keeps, tt, same-state, ((λ is. absurd (not is)), (λ _. refl)))
 
 pub take_allowed :
-    (p : Plan) (slots id : ℕ) (me : Me (Option HandleOf) LaneView) (lane : ℕ) → lane < p.seats
+    (p : Opened) (slots id : ℕ) (me : Me (Option HandleOf) LaneView) (lane : ℕ) → lane < p.seats
     → (out : ℕ) → out ≢ 0
     → Allows (IsOneLog p) slots id me (word_of lane) (λ n. either (n == 0) out n)
     (Takes (step slots (word_of lane) 0 out none) me)
@@ -431,7 +448,7 @@ take_allowed p slots id me lane within out is-out s rule homes at fits =
 -- ---- a lane is marked
 
 module _
-    (p : Plan) (s : LaneMoment) (rule : IsOneLog p s) (id : ℕ) (v : LaneView)
+    (p : Opened) (s : LaneMoment) (rule : IsOneLog p s) (id : ℕ) (v : LaneView)
     (at : get_elem? s.views id ≡ some v) (lane : ℕ) (within : lane < p.seats) where
   with-word : (out : ℕ) → out ≢ 0
       → IsOneLog p (record {
@@ -446,6 +463,8 @@ module _
     seen = rule.seen;
     dealt = rule.dealt;
     fits = rule.fits;
+    room = rule.room;
+    asked = rule.asked;
     made = rule.made;
     count = rule.count;
     long = length-set s.words (word_of lane) out ∙ rule.long;
@@ -495,7 +514,7 @@ module _
       (sym (set_again s.views id v at)) keeps-rule
 
 pub mark_allowed :
-    (p : Plan) (slots id : ℕ) (me : Me (Option HandleOf) LaneView) (lane old new : ℕ)
+    (p : Opened) (slots id : ℕ) (me : Me (Option HandleOf) LaneView) (lane old new : ℕ)
     → lane < p.seats → new ≢ 0
     → Allows (IsOneLog p) slots id me (word_of lane) (λ n. either (n == old) new n)
     (Marks (step slots (word_of lane) old new none) me)
@@ -528,10 +547,11 @@ mark_allowed p slots id me lane old new within is-new s rule homes at fits =
 -- The structure of the rule lasts, where a lane's handle comes home. What is left to say is what is
 -- known then: of the handles that are at home, and of the views.
 module _
-    (p : Plan) (s : LaneMoment) (rule : IsOneLog p s) (id : ℕ) (v w : LaneView) (lane : ℕ)
+    (p : Opened) (s : LaneMoment) (rule : IsOneLog p s) (id : ℕ) (v w : LaneView) (lane : ℕ)
     (knew : List Event)
     (handle : HandleOf) (more : List (ℕ × Option HandleOf)) (at : get_elem? s.views id ≡ some v)
     (within : lane < p.seats) (guest : w.guest ≡ v.guest) (deals : w.dealer ≡ v.dealer)
+    (keys : w.account.keys ≡ v.account.keys)
     (one-less : (i : ℕ) → times_out i v.outs
     ≡ times_out i (record { lane = lane; knew = knew } ∷ w.outs)) where
   after : LaneMoment
@@ -598,7 +618,8 @@ module _
 
   back-keeps :
       (m : MapOf) (e : EpochIn) (current seen : ℕ → List Event)
-      → m.chain.shape.seats ≡ p.seats → All (IsOfGuest p.seats) (log_of e.past)
+      → m.chain.shape.seats ≡ p.seats → HasSlots p.keys m.chain.shape
+      → All (IsOfGuest p.seats) (log_of e.past)
       → IsLane m lane handle → KnowsIn e.filled e.past handle.seat (current lane)
       → ((i : ℕ) (y : Option HandleOf) → i ≢ lane → get_elem? s.homes i ≡ some (some y)
       → (h : HandleOf) × (y ≡ Some h) × IsLane m i h
@@ -615,7 +636,7 @@ module _
       → u.guest ≡ Some i → u.seen ≡ seen i)
       → ((i : ℕ) → rule.dealt ≤ i → seen i ≡ [])
       → IsOneLog p (stepped s (word_of lane) 0 id ((lane, Some handle) ∷ more) w gives)
-  back-keeps m e current seen fits made one knows elsewhere mine-at away-at mine-knew away-knew goes
+  back-keeps m e current seen fits room made one knows elsewhere mine-at away-at mine-knew away-knew goes
       mine-seen
       away-seen fresh =
       record {
@@ -623,6 +644,8 @@ module _
         epoch = e;
         current = current;
         fits = fits;
+        room = room;
+        asked = asked;
         made = made;
         count = length-set s.homes lane (some (Some handle)) ∙ rule.count;
         long = length-set s.words (word_of lane) 0 ∙ rule.long;
@@ -650,6 +673,17 @@ module _
             rule.one_guest id' other a.0 b.0 i a.1 b.1 (a.2 ∙ is-guest) (b.2 ∙ is-guest');
       }
     where
+      asked : (id' : ℕ) (u : LaneView) → get_elem? (slice_set s.views id w) id' ≡ some u
+          → u.account.keys ≤ p.keys
+      asked id' u found = by (at_set s.views id id' w u found)
+        where
+          by : ((id' ≡ id) × (w ≡ u)) ⊎ ((id' ≢ id) × (get_elem? s.views id' ≡ some u))
+              → u.account.keys ≤ p.keys
+          by (inl (_, is)) =
+              subst (λ (x : LaneView). x.account.keys ≤ p.keys) is
+              (subst (λ n. n ≤ p.keys) (sym keys) (rule.asked id v at))
+          by (inr (_, old)) = rule.asked id' u old
+
       Home : ℕ → Option HandleOf → Type 0
       Home i y = (h : HandleOf) × (y ≡ Some h) × IsLane m i h
           × KnowsIn e.filled e.past h.seat (current i)
@@ -735,7 +769,7 @@ some-is i j e = ap (λ o. unwrap_or o i) e
 -- ---- a handle of the same map comes home
 
 module _
-    (p : Plan) (s : LaneMoment) (rule : IsOneLog p s) (id : ℕ) (v : LaneView) (lane : ℕ)
+    (p : Opened) (s : LaneMoment) (rule : IsOneLog p s) (id : ℕ) (v : LaneView) (lane : ℕ)
     (knew whole : List Event) (outs : List Out) (handle : HandleOf)
     (more : List (ℕ × Option HandleOf)) (at : get_elem? s.views id ≡ some v)
     (within : lane < p.seats) (view : v.outs ≡ record { lane = lane; knew = knew } ∷ outs)
@@ -779,16 +813,16 @@ module _
       → ((other : ℕ) (u : LaneView) (i : ℕ) → other ≢ id → get_elem? s.views other ≡ some u
       → u.guest ≡ Some i → u.seen ≡ seen i)
       → ((i : ℕ) → rule.dealt ≤ i → seen i ≡ [])
-      → (account : Account)
+      → (account : Account) → account.keys ≡ v.account.keys
       → IsOneLog p
       (stepped s (word_of lane) 0 id ((lane, Some handle) ∷ more)
       (given v outs w-seen account) gives)
-  home-keeps w-seen seen goes mine away fresh account =
+  home-keeps w-seen seen goes mine away fresh account keys =
       back-keeps p s rule id v
-      (given v outs w-seen account) lane knew handle more at within refl refl
+      (given v outs w-seen account) lane knew handle more at within refl refl keys
       (λ i. ap (times_out i) view) rule.shared rule.epoch
       (with_current rule.current lane whole) seen
-      rule.fits rule.made (record {
+      rule.fits rule.room rule.made (record {
         map = one.map ∙ is-at.map;
         number = one.number;
         alone = one.alone;
@@ -820,7 +854,7 @@ module _
       (given v outs whole (gave handle v.account)) gives)
   give-keeps is-guest =
       home-keeps whole (with_current rule.seen lane whole) goes mine away fresh
-      (gave handle v.account)
+      (gave handle v.account) refl
     where
       dealt : lane < rule.dealt
       dealt = (rule.guests id v lane at is-guest).0
@@ -872,7 +906,7 @@ module _
       (given v outs v.seen v.account) gives)
   deal-keeps gone =
       home-keeps v.seen rule.seen goes (λ i is. (rule.guests id v i at is).1)
-      (λ other u i differ at' is. (rule.guests other u i at' is).1) rule.fresh v.account
+      (λ other u i differ at' is. (rule.guests other u i at' is).1) rule.fresh v.account refl
     where
       goes : (i : ℕ) → i < p.seats
           → IsCurrent i (rule.seen i) (with_current rule.current lane whole i)
@@ -899,13 +933,14 @@ some_time [] not = absurd (not refl)
 some_time (out ∷ outs) not = (out, inl refl)
 
 module _
-    (p : Plan) (s : LaneMoment) (rule : IsOneLog p s) (id : ℕ) (v : LaneView) (lane : ℕ)
+    (p : Opened) (s : LaneMoment) (rule : IsOneLog p s) (id : ℕ) (v : LaneView) (lane : ℕ)
     (knew : List Event)
     (outs : List Out) (handle : HandleOf) (next : EpochIn) (more : List (ℕ × Option HandleOf))
     (at : get_elem? s.views id ≡ some v) (within : lane < p.seats)
     (view : v.outs ≡ record { lane = lane; knew = knew } ∷ outs)
     (number : handle.seat.chain.number ≡ lane) (alone : handle.reserve ≡ [])
     (fits : handle.map.chain.shape.seats ≡ p.seats)
+    (room : IsKnownOrHasSlots p.keys v.map handle.map)
     (made : All (IsOfGuest p.seats) (log_of next.past))
     (knows : KnowsIn next.filled next.past handle.seat next.past)
     (all : (i : ℕ) → i < p.seats → 1 ≤ times_out i v.outs)
@@ -950,16 +985,28 @@ module _
       (subst (λ n. HasGoneOnBy n (log_of found.0.knew) (log_of next.past) []) found.2
       (met found.0 found.1)))
 
+  has-slots : HasSlots p.keys handle.map.chain.shape
+  has-slots =
+      elim room [
+        | inl same ↦
+            let was = rule.held id v at (λ none-left. absurd (omega (
+              arith,
+              ap length (sym view ∙ none-left),
+            ))) in
+            subst (λ (m : MapOf). HasSlots p.keys m.chain.shape) (sym was.map ∙ sym same) rule.room
+        | inr slots ↦ slots
+      ]
+
   anew-keeps :
       IsOneLog p
       (stepped s (word_of lane) 0 id ((lane, Some handle) ∷ more)
       (given_anew v outs handle.map next.filled next.past (began handle v.account)) gives)
   anew-keeps =
       back-keeps p s rule id v (given_anew v outs handle.map next.filled next.past (began handle v.account)) lane knew handle
-      more at within refl refl
+      more at within refl refl refl
       (λ i. ap (times_out i) view ∙ ap (λ n. if i == lane then 1 + n else n)
       (sym (times_all_knew i next.past outs)))
-      handle.map next (λ _. next.past) rule.seen fits made
+      handle.map next (λ _. next.past) rule.seen fits has-slots made
       (record { map = refl; number = number; alone = alone })
       knows
       (λ i y other old. absurd (none-home i y old))
@@ -1013,7 +1060,7 @@ known-of filled past seat whole knows =
     )
 
 pub give_allowed :
-    (p : Plan) (slots id : ℕ) (me : Me (Option HandleOf) LaneView) (lane : ℕ)
+    (p : Opened) (slots id : ℕ) (me : Me (Option HandleOf) LaneView) (lane : ℕ)
     (knew whole : List Event)
     (handle : HandleOf) → lane < p.seats → Holds lane knew whole handle me
     → me.0.guest ≡ Some lane
@@ -1039,7 +1086,7 @@ give_allowed p slots id me lane knew whole handle within holds is-guest =
     ))
 
 pub deal_allowed :
-    (p : Plan) (slots id : ℕ) (me : Me (Option HandleOf) LaneView) (lane : ℕ)
+    (p : Opened) (slots id : ℕ) (me : Me (Option HandleOf) LaneView) (lane : ℕ)
     (knew whole : List Event)
     (handle : HandleOf) → lane < p.seats → Holds lane knew whole handle me
     → IsCurrent lane knew whole
@@ -1068,7 +1115,7 @@ anew-log next seat knows =
     knows.here ∙ ap (λ l. l ++ log_of next.filled) none-later
 
 pub anew_allowed :
-    (p : Plan) (slots id : ℕ) (me : Me (Option HandleOf) LaneView) (lane : ℕ) (knew : List Event)
+    (p : Opened) (slots id : ℕ) (me : Me (Option HandleOf) LaneView) (lane : ℕ) (knew : List Event)
     (handle : HandleOf) (next : EpochIn) → lane < p.seats → HoldsAnew p lane knew handle next me
     → Allows (IsOneLog p) slots id me (word_of lane) (λ _. 0)
     (λ _. Renews (step slots (word_of lane) 0 0 none) me 0)
@@ -1081,7 +1128,7 @@ anew_allowed p slots id me lane knew handle next within holds =
       gives,
       tt,
       anew-keeps p s rule id me.0 lane knew holds.outs handle next (rest me.1) at within holds.view
-          holds.number holds.alone holds.fits holds.made holds.knows holds.all holds.met,
+          holds.number holds.alone holds.fits holds.room holds.made holds.knows holds.all holds.met,
       (
         next,
         anew-log next handle.seat holds.knows,
@@ -1116,12 +1163,13 @@ one_view v zero u at = (refl, some-injective v u at)
 one_view v (suc id) u at = absurd (some-ne-none u (sym at))
 
 pub opens :
-    (p : Plan) (m : MapOf) (handles : List HandleOf) (slots : List (Option HandleOf))
-    (words : List ℕ) → m.chain.shape.seats ≡ p.seats → length handles ≡ p.seats
+    (p : Opened) (m : MapOf) (handles : List HandleOf) (slots : List (Option HandleOf))
+    (words : List ℕ) → m.chain.shape.seats ≡ p.seats → HasSlots p.keys m.chain.shape
+    → length handles ≡ p.seats
     → ((i : ℕ) (h : HandleOf) → slice_get handles i ≡ Some h → IsLane m i h × (log h.seat ≡ []))
     → slots ≡ map Some handles → words ≡ replicate (8 * p.seats) 0
     → IsOneLog p (opening words slots (first_lane_view p))
-opens p m handles slots words fits count each is zeros =
+opens p m handles slots words fits room count each is zeros =
     subst (λ xs. IsOneLog p (opening words xs (first_lane_view p))) (sym is)
     (subst (λ ws. IsOneLog p (opening ws (map Some handles) (first_lane_view p))) (sym zeros)
     (record {
@@ -1131,6 +1179,9 @@ opens p m handles slots words fits count each is zeros =
       seen = λ _. [];
       dealt = 0;
       fits = fits;
+      room = room;
+      asked = λ id v at. subst (λ (u : LaneView). u.account.keys ≤ p.keys)
+          (one_view (first_lane_view p) id v at).1 (omega arith);
       made = All-nil (IsOfGuest p.seats);
       count = omega (arith, length-map (map Some handles) some, length-map handles Some, count);
       long = length-replicate (8 * p.seats) 0;
@@ -1179,7 +1230,7 @@ holders_same i views id v w at same =
     omega (arith, moved, e)
 
 module _
-    (p : Plan) (id : ℕ) (v : LaneView) (d : ℕ) (deals : v.dealer ≡ Some d) (room : d < p.seats)
+    (p : Opened) (id : ℕ) (v : LaneView) (d : ℕ) (deals : v.dealer ≡ Some d) (room : d < p.seats)
     (s : LaneMoment) (rule : IsOneLog p s) (at : get_elem? s.views id ≡ some v) where
   abbrev views-then : List LaneView
   views-then = slice_set s.views id (dealer_left v) ++ new_guest v ∷ []
@@ -1193,7 +1244,8 @@ module _
       → ((x : LaneView) × (get_elem? s.views other ≡ some x) × (x.guest ≡ u.guest)
       × (x.seen ≡ u.seen) × (x.outs ≡ u.outs)
       × ((x.map ≡ u.map) × (x.filled ≡ u.filled) × (x.past ≡ u.past))
-      × (((other ≡ id) × (u.dealer ≡ Some (suc d))) ⊎ ((other ≢ id) × (x.dealer ≡ u.dealer))))
+      × (((other ≡ id) × (u.dealer ≡ Some (suc d))) ⊎ ((other ≢ id) × (x.dealer ≡ u.dealer)))
+      × (x.account ≡ u.account))
       ⊎ ((other ≡ length s.views) × (new_guest v ≡ u))
   was-view other u found = by (at_end (slice_set s.views id (dealer_left v))
       (new_guest v) u other found)
@@ -1216,6 +1268,7 @@ module _
           × (x.seen ≡ u.seen) × (x.outs ≡ u.outs)
           × ((x.map ≡ u.map) × (x.filled ≡ u.filled) × (x.past ≡ u.past))
           × (((other ≡ id) × (u.dealer ≡ Some (suc d))) ⊎ ((other ≢ id) × (x.dealer ≡ u.dealer)))
+          × (x.account ≡ u.account)
 
       old : ((other ≡ id) × (dealer_left v ≡ u))
           ⊎ ((other ≢ id) × (get_elem? s.views other ≡ some u))
@@ -1232,8 +1285,9 @@ module _
           ap (λ (x : LaneView). x.past) is,
         ),
         inl (here, sym (ap (λ (x : LaneView). x.dealer) is) ∙ ap next_dealer deals),
+        ap (λ (x : LaneView). x.account) is,
       )
-      old (inr (differ, is)) = (u, is, refl, refl, refl, (refl, refl, refl), inr (differ, refl))
+      old (inr (differ, is)) = (u, is, refl, refl, refl, (refl, refl, refl), inr (differ, refl), refl)
 
       by : (get_elem? (slice_set s.views id (dealer_left v)) other ≡ some u)
           ⊎ ((other ≡ length (slice_set s.views id (dealer_left v))) × (new_guest v ≡ u))
@@ -1254,6 +1308,8 @@ module _
     seen = rule.seen;
     dealt = suc d;
     fits = rule.fits;
+    room = rule.room;
+    asked = asked;
     made = rule.made;
     count = rule.count;
     long = rule.long;
@@ -1273,6 +1329,16 @@ module _
     one_dealer = one-dealer;
   }
     where
+      asked : (other : ℕ) (u : LaneView) → get_elem? views-then other ≡ some u
+          → u.account.keys ≤ p.keys
+      asked other u found =
+          elim (was-view other u found) [
+            | inl x ↦
+                subst (λ (a : Account). a.keys ≤ p.keys) x.7 (rule.asked other x.0 x.1)
+            | inr new ↦
+                subst (λ (x : LaneView). x.account.keys ≤ p.keys) new.1 (rule.asked id v at)
+          ]
+
       held : (other : ℕ) (u : LaneView) → get_elem? views-then other ≡ some u → u.outs ≢ []
           → IsOfMap rule.shared rule.epoch u
       held other u found some-lane =
@@ -1373,6 +1439,6 @@ module _
           (who one u e found deals').0 ∙ sym (who other w e' found' deals'').0
 
 pub forks :
-    (p : Plan) (id : ℕ) (v : LaneView) (d : ℕ) → v.dealer ≡ Some d → d < p.seats
+    (p : Opened) (id : ℕ) (v : LaneView) (d : ℕ) → v.dealer ≡ Some d → d < p.seats
     → Splits (IsOneLog p) id v (dealer_left v) (new_guest v)
 forks p id v d deals room s rule at = fork-keeps p id v d deals room s rule at

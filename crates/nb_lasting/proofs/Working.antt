@@ -1,6 +1,6 @@
 -- How often a guest's write takes its handle.
-use Rattle.std.proofs.Common.{◌≡◌, ◌∙◌, ◌+◌, ◌*◌, ◌<◌, ◌≤◌, ◌≢◌, ◌∷◌, ℕ, List, [], Some, ap, arith, inl, inr, refl, subst, sym}
-use Rattle.std.specs.Prelude.{◌-◌, Err, IsTrue, None, Ok, Option, Result, cond, is_some}
+use Rattle.std.proofs.Common.{◌≡◌, ◌∙◌, ◌*◌, ◌<◌, ◌≢◌, ◌∷◌, ℕ, List, [], Some, ap, inl, inr, refl, subst, sym}
+use Rattle.std.specs.Prelude.{Err, IsTrue, None, Ok, Option, Result}
 use Rattle.std.proofs.lemmas.List.{append_cancel_right}
 use Rattle.nb_core.specs.Log.{calls_of}
 use Rattle.nb_core.specs.declared.calls.Call.{Call}
@@ -12,7 +12,7 @@ use Rattle.nb_map.specs.declared.faults.PutFault.TheVariants as put_fault
 use Rattle.nb_map.specs.declared.faults.PutFault.{PutFault}
 use Rattle.nb_map.specs.declared.occupancy.Occupancy.{Occupancy}
 use Rattle.nb_lasting.proofs.Visiting.{then-first}
-use Rattle.nb_lasting.specs.Guests.{GuestHasCalled, GuestHasWorked, GuestOf, HasLookedBy, HasLookedInTime, IsOfOneVisit, calls_left, left_after, left_with}
+use Rattle.nb_lasting.specs.Guests.{GuestHasCalled, GuestHasWorked, GuestOf, HasLookedBy, HasLookedInTime, HasTriedUntilDone, calls_left, left_after, left_with}
 use Rattle.nb_lasting.specs.Holding.{HasTriedOnAs}
 use Rattle.nb_lasting.specs.Tries.{Again, Done, HasTriedOn, HasTriedAlone, IsUndone}
 use Rattle.nb_lasting.specs.Visits.{AreBack, HasGoneRound, HasVisited, SharedOf}
@@ -26,7 +26,7 @@ use Rattle.nb_lasting.specs.inside.Guests.{GuestHasBegun, GuestHasTried, HasTrie
 pub once-by :
     (call : Call) (before after : GuestOf) (outcome : Result Reply PutFault)
     → (IsUndone outcome → ⊥) → HasTriedAlone call before.number before.account after.account outcome
-    → HasWrittenHere call before after outcome → IsOfOneVisit call before after
+    → HasWrittenHere call before after outcome → HasTriedUntilDone call before after
 once-by call before after outcome done try wrote = record {
   outcome = outcome;
   then = after.account;
@@ -92,8 +92,8 @@ full-by call before middle after result try none tried on =
 -- it goes on
 pub then-once :
     (call : Call) (before middle after : GuestOf) → GuestHasBegun call before middle
-    → GuestHasCalled before middle [] → IsOfOneVisit call middle after
-    → IsOfOneVisit call before after
+    → GuestHasCalled before middle [] → HasTriedUntilDone call middle after
+    → HasTriedUntilDone call before after
 then-once call before middle after begun none once = record {
   outcome = begun.outcome;
   then = begun.then;
@@ -182,7 +182,7 @@ counted-replied first middle last left made is called =
 pub worked-once :
     (call : Call) (first middle last : GuestOf) → GuestHasCalled first middle []
     → (first.left ≢ 0 → middle ≡ first) → (first.left ≡ 0 → HasLookedInTime first middle)
-    → middle.left ≡ calls_left first.left → IsOfOneVisit call middle last
+    → middle.left ≡ calls_left first.left → HasTriedUntilDone call middle last
     → last.left ≡ middle.left → GuestHasCalled middle last [] → GuestHasWorked call first last
 worked-once call first middle last unmade same due left once kept none = record {
   looked = middle;
@@ -197,7 +197,7 @@ pub worked-counted :
     (call : Call) (first middle last counted : GuestOf) (reply : Reply)
     → GuestHasCalled first middle [] → (first.left ≢ 0 → middle ≡ first)
     → (first.left ≡ 0 → HasLookedInTime first middle) → middle.left ≡ calls_left first.left
-    → IsOfOneVisit call middle last → last.left ≡ middle.left
+    → HasTriedUntilDone call middle last → last.left ≡ middle.left
     → GuestHasCalled middle last ((call, reply) ∷ [])
     → counted ≡ with_calls_left (left_with reply last.left) last → GuestHasWorked call first counted
 worked-counted call first middle last counted reply unmade same due left once kept called count =

@@ -1,7 +1,7 @@
 -- A map without an end that guests share, each in a thread of its own: what their calls promise,
 -- and what holds at its end. It is told in words of calls, and of the handles that they take.
 use Rattle.std.specs.FinMap as numbers
-use Rattle.std.specs.Prelude.{◌≡◌, ◌≢◌, ◌<◌, ◌≤◌, ◌+◌, ◌*◌, ◌-◌, ◌∷◌, ◌++◌, ◌⊎◌, ℕ, zero, suc, Bool, IsTrue, Result, List, [], All, Option, Some, cond, is_some, length, map, slice_get}
+use Rattle.std.specs.Prelude.{◌≡◌, ◌≢◌, ◌<◌, ◌*◌, ◌-◌, ◌∷◌, ◌++◌, ◌⊎◌, ℕ, zero, suc, Bool, IsTrue, Result, List, [], All, Option, Some, cond, is_some, length, map, slice_get}
 use Rattle.nb_core.specs.Log.{Entry, IsReplayed, Numbers, calls_of, map_of_log}
 use Rattle.nb_core.specs.declared.calls.Call.{Call}
 use Rattle.nb_core.specs.declared.calls.Reply.{Reply}
@@ -34,7 +34,7 @@ pub record GuestOf : Type 0 where
 -- one that has called nothing yet
 abbrev pub new_guest_of : SharedOf → (number : ℕ) → GuestOf
 new_guest_of shared number =
-    record { of = shared; number = number; log = []; account = no_account; left = LOOK_AFTER }
+    record { of = shared; number = number; log = []; account = no_account shared.keys; left = LOOK_AFTER }
 
 -- ---- a guest's calls
 
@@ -74,7 +74,7 @@ pub record GuestHasRead (key : ℕ) (before after : GuestOf) (found : Option ℕ
 -- It took its own handle once, for one write by it with 2^32 - 1 tries. It did no more, and has made
 -- the call just where that was made; unless that was for nothing. Then it went on, until it made
 -- the call by such a try, or was refused it.
-pub record IsOfOneVisit (call : Call) (before after : GuestOf) : Type 0 where
+pub record HasTriedUntilDone (call : Call) (before after : GuestOf) : Type 0 where
   pub outcome : Result Reply PutFault
   pub then : Account
   pub made : List (Call × Reply)
@@ -118,7 +118,7 @@ pub record GuestHasWorked (call : Call) (before after : GuestOf) : Type 0 where
   pub unmade : GuestHasCalled before looked []
   pub none : before.left ≢ 0 → looked ≡ before
   pub due : before.left ≡ 0 → HasLookedInTime before looked
-  pub once : IsOfOneVisit call looked after
+  pub once : HasTriedUntilDone call looked after
   pub counted :
       (made : List (Call × Reply)) → GuestHasCalled before after made
       → after.left ≡ left_after made (calls_left before.left)

@@ -1,7 +1,6 @@
 -- What a token has to hold that gives a lane's handle back.
 use Rattle.std.specs.Prelude.{◌≡◌, ◌∷◌, ℕ, Err, None, Ok, Option, Result, Some, List, [], true}
 use Rattle.atomic_table.specs.Table.{Me}
-use Rattle.nb_core.specs.Plans.{Plan}
 use Rattle.nb_core.specs.Calls.{overflows}
 use Rattle.nb_core.specs.Log.{Entry, log_of, map_of_log}
 use Rattle.nb_core.specs.declared.calls.Call.{Call}
@@ -19,6 +18,7 @@ use Rattle.nb_lasting.specs.declared.faults.WriteFault.TheVariants as fault
 use Rattle.nb_lasting.specs.declared.faults.WriteFault.{WriteFault}
 use Rattle.nb_lasting.specs.declared.shared.Account.{Account}
 use Rattle.nb_lasting.specs.declared.shared.LaneView.{LaneView}
+use Rattle.nb_lasting.specs.declared.shared.Opened.{Opened}
 
 -- a guest that has the handle of its own lane, whatever it has called
 pub record CanGive (lane : ℕ) (me : Me (Option HandleOf) LaneView) : Type 0 where
@@ -37,7 +37,7 @@ pub record CanDeal (lane : ℕ) (me : Me (Option HandleOf) LaneView) : Type 0 wh
   pub current : IsCurrent lane knew whole
 
 -- one that has all lanes' handles, of a new map
-pub record CanRenew (p : Plan) (lane : ℕ) (me : Me (Option HandleOf) LaneView) : Type 0 where
+pub record CanRenew (p : Opened) (lane : ℕ) (me : Me (Option HandleOf) LaneView) : Type 0 where
   pub knew : List Event
   pub handle : HandleOf
   pub next : EpochIn

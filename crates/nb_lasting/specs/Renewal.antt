@@ -1,6 +1,6 @@
 -- What a renewer holds: the handles of the lanes below a number, and of all lanes at last.
 use Rattle.std.specs.FinMap as numbers
-use Rattle.std.specs.Prelude.{◌≡◌, ◌≢◌, ◌*◌, ◌<◌, ◌≤◌, ◌++◌, ℕ, zero, suc, All, List, [], ◌∷◌, Option, Some, None, IfOk, Result, ⊤, length, max, slice_get}
+use Rattle.std.specs.Prelude.{◌≡◌, ◌≢◌, ◌*◌, ◌<◌, ◌≤◌, ◌++◌, ℕ, zero, suc, All, List, [], ◌∷◌, Option, Some, None, IfErr, IfOk, Result, ⊤, length, max, slice_get}
 use Rattle.atomic_table.specs.Table.{Me}
 use Rattle.nb_core.specs.Log.{Entry, Numbers, log_of, map_of_log}
 use Rattle.nb_core.specs.Meaning.{IsCrowded}
@@ -12,8 +12,8 @@ use Rattle.nb_map.specs.Maps.{MapOf}
 use Rattle.nb_map.specs.declared.faults.RenewFault.{RenewFault}
 use Rattle.nb_lasting.specs.Epochs.{HasGoneOnBy}
 use Rattle.nb_lasting.specs.Lasting.{HasSlots, IsGreatest}
-use Rattle.nb_lasting.specs.Shared.{EpochIn, IsCurrent, IsLane, IsOfGuest, KnowsIn}
-use Rattle.nb_lasting.specs.Visits.{began, gave, took}
+use Rattle.nb_lasting.specs.Shared.{EpochIn, IsCurrent, IsKnownOrHasSlots, IsLane, IsOfGuest, KnowsIn}
+use Rattle.nb_lasting.specs.Visits.{HasClaimedForItsKeys, began, gave, took}
 use Rattle.nb_lasting.specs.declared.shared.Account.{Account}
 use Rattle.nb_lasting.specs.declared.shared.Out.{Out}
 use Rattle.nb_lasting.specs.declared.shared.LaneView.{LaneView}
@@ -58,12 +58,13 @@ pub record KnowOneLog (handles : List HandleOf) : Type 0 where
   pub whole : List Entry
   pub logs : (i : ℕ) (h : HandleOf) → slice_get handles i ≡ Some h → log h.seat ≡ whole
 
--- What a renewal makes of all handles. Where it is refused, the epoch is one of the same map, so
--- that what the renewal has read is nobody's call.
+-- What a renewal makes of all handles of a map. Where it is refused, the epoch is one of the same
+-- map, so that what the renewal has read is nobody's call.
 abbrev pub AreRenewed :
-    Plan → (ℕ → List Event) → (after : List HandleOf) → Result ⊤ RenewFault → Type 0
-AreRenewed p knew after result =
+    Plan → MapOf → (ℕ → List Event) → (after : List HandleOf) → Result ⊤ RenewFault → Type 0
+AreRenewed p m knew after result =
     (anew : AreAnew p.seats knew after) × IfOk result (λ done. anew.shared.chain.shape ≡ p)
+    × IfErr result (λ fault. anew.shared ≡ m)
 
 -- ---- what the renewer's token holds
 
@@ -114,13 +115,15 @@ pub record CanComeHome (own : ℕ) (whole : List Entry) (n : ℕ) (me : Me (Opti
   pub due : own < n → log_of (know own) ≡ whole
   pub seen : n ≤ own → log_of me.0.seen ≡ whole
 
--- It has those of all lanes, and they begin an epoch.
-pub record CanDealAnew (n : ℕ) (me : Me (Option HandleOf) LaneView) (handles : List HandleOf) :
+-- It has those of all lanes, and they begin an epoch, of the map that it knows or of one with slots
+-- for so many keys.
+pub record CanDealAnew (keys n : ℕ) (me : Me (Option HandleOf) LaneView) (handles : List HandleOf) :
     Type 0 where
   pub knew : ℕ → List Event
   pub outs : me.0.outs ≡ down knew n
   pub slots : me.1 ≡ blanks n
   pub anew : AreAnew n knew handles
+  pub room : IsKnownOrHasSlots keys me.0.map anew.shared
 
 -- a token that has no lane's handle
 pub record IsIdleToken (me : Me (Option HandleOf) LaneView) : Type 0 where
@@ -190,4 +193,5 @@ pub record HasBegunAs (p : Plan) (handles : List HandleOf) (before after : Accou
   pub first : HandleOf
   pub account : after ≡ began first before
   pub shape : first.map.chain.shape ≡ p
+  pub claimed : HasClaimedForItsKeys first
   pub same : (one : KnowOneLog handles) → map_of_log (log first.seat) ≡ map_of_log one.whole

@@ -8,17 +8,18 @@ use lib.ListN.{get_elem?}
 use Rattle.atomic_table.specs.Seated.{TableId}
 use Rattle.atomic_table.specs.Table.{Me, State, Step, rest}
 use Rattle.nb_core.specs.Log.{Entry, IsReplayed, log_of, map_of_log}
-use Rattle.nb_core.specs.Plans.{Plan}
 use Rattle.nb_core.specs.declared.events.Event.{Event}
 use Rattle.nb_core.specs.declared.events.Event.TheVariants.{Read}
 use Rattle.nb_map.specs.Handles.{HandleOf}
 use Rattle.nb_map.specs.Logs.{log}
 use Rattle.nb_map.specs.Maps.{MapOf, SeatOf}
 use Rattle.nb_lasting.specs.Epochs.{HasGoneOnBy}
+use Rattle.nb_lasting.specs.Lasting.{HasSlots}
 use Rattle.nb_lasting.specs.Visits.{began, gave, no_account, took}
 use Rattle.nb_lasting.specs.declared.shared.Account.{Account}
 use Rattle.nb_lasting.specs.declared.shared.Out.{Out}
 use Rattle.nb_lasting.specs.declared.shared.LaneView.{LaneView}
+use Rattle.nb_lasting.specs.declared.shared.Opened.{Opened}
 
 -- ---- logs in views
 --
@@ -104,14 +105,17 @@ Has out (o ∷ outs) = (o ≡ out) ⊎ Has out outs
 -- current: the one log that the handle knows which is at home there, or that it knew when it was
 -- taken. It goes on from what the lane's guest has seen, by no call of the guest. Lanes have guests
 -- up to a number, which one token knows that makes more of them; where there is no guest yet,
--- nothing has been seen.
-pub record IsOneLog (p : Plan) (s : LaneMoment) : Type 0 where
+-- nothing has been seen. The map has slots for as many keys as it was opened for, and no account
+-- names more.
+pub record IsOneLog (p : Opened) (s : LaneMoment) : Type 0 where
   pub shared : MapOf
   pub epoch : EpochIn
   pub current : ℕ → List Event
   pub seen : ℕ → List Event
   pub dealt : ℕ
   pub fits : shared.chain.shape.seats ≡ p.seats
+  pub room : HasSlots p.keys shared.chain.shape
+  pub asked : (id : ℕ) (v : LaneView) → get_elem? s.views id ≡ some v → v.account.keys ≤ p.keys
   pub made : All (IsOfGuest p.seats) (log_of epoch.past)
   pub count : length s.homes ≡ p.seats
   pub long : length s.words ≡ 8 * p.seats
@@ -164,8 +168,9 @@ pub record HasTaken (lane : ℕ) (before after : Me (Option HandleOf) LaneView) 
       × (after.0.dealer ≡ before.0.dealer)
   -- a guest that takes its own lane's handle has seen what it knows
   pub mine : before.0.guest ≡ Some lane → IsCurrent lane before.0.seen knew
-  -- it is in the account
+  -- it is in the account, and its map has slots for as many keys as that says
   pub account : after.0.account ≡ took handle before.0.account
+  pub room : HasSlots before.0.account.keys after.0.map.chain.shape
   -- who had others still has them, of the same map
   pub same :
       before.0.outs ≢ []
@@ -215,9 +220,13 @@ given_anew v outs m filled past account = record v {
   account = account;
 }
 
+-- the map is the one that was known, or has slots for so many keys
+abbrev pub IsKnownOrHasSlots : (keys : ℕ) → (known m : MapOf) → Type 0
+IsKnownOrHasSlots keys known m = (m ≡ known) ⊎ HasSlots keys m.chain.shape
+
 -- The token has all lanes' handles, the last taken of which is given back, of a new map. That one
 -- knows the log of all calls, which goes on from what each lane's handle knew, by no call of it.
-pub record HoldsAnew (p : Plan) (lane : ℕ) (knew : List Event) (handle : HandleOf) (next : EpochIn)
+pub record HoldsAnew (p : Opened) (lane : ℕ) (knew : List Event) (handle : HandleOf) (next : EpochIn)
     (me : Me (Option HandleOf) LaneView) : Type 0 where
   pub outs : List Out
   pub view : me.0.outs ≡ record { lane = lane; knew = knew } ∷ outs
@@ -225,6 +234,7 @@ pub record HoldsAnew (p : Plan) (lane : ℕ) (knew : List Event) (handle : Handl
   pub number : handle.seat.chain.number ≡ lane
   pub alone : handle.reserve ≡ []
   pub fits : handle.map.chain.shape.seats ≡ p.seats
+  pub room : IsKnownOrHasSlots p.keys me.0.map handle.map
   pub made : All (IsOfGuest p.seats) (log_of next.past)
   pub knows : KnowsIn next.filled next.past handle.seat next.past
   pub all : (i : ℕ) → i < p.seats → 1 ≤ times_out i me.0.outs
@@ -328,23 +338,26 @@ no_id = record {
   slot_names = [];
 }
 
-abbrev pub no_map : Plan → MapOf
-no_map p = record {
-  chain = record { id = no_id; shape = p };
+abbrev pub no_map : MapOf
+no_map = record {
+  chain = record {
+    id = no_id;
+    shape = record { exponents = []; seats = 0; stripes = 0; reprobes = 0; chunk = 0 };
+  };
   counter = record { id = no_id; stripes = 0; seats = 0 };
 }
 
 -- the first token has no lane, and makes the guests
-abbrev pub first_lane_view : Plan → LaneView
+abbrev pub first_lane_view : Opened → LaneView
 first_lane_view p = record {
   guest = None;
   dealer = Some 0;
   seen = [];
-  map = no_map p;
+  map = no_map;
   filled = [];
   past = [];
   outs = [];
-  account = no_account;
+  account = no_account p.keys;
 }
 
 -- it makes one, which has the next lane
@@ -364,7 +377,7 @@ new_guest v = record {
   filled = [];
   past = [];
   outs = [];
-  account = no_account;
+  account = no_account v.account.keys;
 }
 
 -- ---- a token takes the place of another
@@ -379,11 +392,11 @@ nobody = record {
   guest = None;
   dealer = None;
   seen = [];
-  map = no_map (record { exponents = []; seats = 0; stripes = 0; reprobes = 0; chunk = 0 });
+  map = no_map;
   filled = [];
   past = [];
   outs = [];
-  account = no_account;
+  account = no_account 0;
 }
 
 -- ---- a guest's place goes on to another token
@@ -402,5 +415,5 @@ guest_alone v = record {
   filled = [];
   past = [];
   outs = [];
-  account = no_account;
+  account = no_account v.account.keys;
 }

@@ -2,24 +2,31 @@
 -- as that was then; of its guest's own one each time that the guest gave it back; and of the first
 -- one that it gave back each time that it made the map anew.
 use Rattle.std.specs.FinMap as numbers
-use Rattle.std.specs.Prelude.{◌≡◌, ◌*◌, ◌∷◌, ◌⊎◌, [], ℕ, List, Some, length, max, slice_get}
+use Rattle.std.specs.Prelude.{◌≡◌, ◌*◌, ◌∷◌, ◌⊎◌, [], ℕ, List, Some, length, map, max, slice_get}
 use Rattle.atomic_table.specs.Seated.{TableId}
-use Rattle.nb_core.specs.Log.{map_of_log}
+use Rattle.nb_core.specs.Log.{Numbers, map_of_log}
+use Rattle.nb_map.specs.Bulk.{put_entry}
+use Rattle.nb_map.specs.Crowding.{HasAskedFor}
 use Rattle.nb_map.specs.Handles.{HandleOf}
 use Rattle.nb_map.specs.Logs.{log}
 use Rattle.nb_lasting.specs.Lasting.{HasSlots}
+use Rattle.nb_lasting.specs.declared.shapes.TheConstants.{LEAST_ANEW}
 use Rattle.nb_lasting.specs.declared.shared.Account.{Account}
 
--- A map that guests share: which one it is, how many guests it has, and for how many keys it has
--- slots at least, whenever it was made anew.
+-- A map that guests share: which one it is, how many guests it has, and for how many keys it was
+-- opened.
 pub record SharedOf : Type 0 where
   pub id : TableId
   pub guests : ℕ
-  pub least : ℕ
+  pub keys : ℕ
 
--- nothing yet
-abbrev pub no_account : Account
-no_account = record { taken = []; returned = []; begun = [] }
+-- for how many keys it is made anew at least
+abbrev pub least_anew : SharedOf → ℕ
+least_anew of = max of.keys LEAST_ANEW
+
+-- nothing yet, of a map that was opened for so many keys
+abbrev pub no_account : ℕ → Account
+no_account keys = record { keys = keys; taken = []; returned = []; begun = [] }
 
 -- the account after this handle was taken
 abbrev pub took : HandleOf → Account → Account
@@ -34,12 +41,13 @@ abbrev pub began : HandleOf → Account → Account
 began handle account = record account { begun = handle ∷ account.begun }
 
 -- A guest took the handle of its own lane once, by which this was done, and gave it back. It took
--- no other.
+-- no other. The map that was there has slots for as many keys as it was opened for.
 pub record HasVisited (lane : ℕ) (did : (there back : HandleOf) → Type 0)
     (before after : Account) : Type 0 where
   pub there : HandleOf
   pub back : HandleOf
   pub own : there.seat.chain.number ≡ lane
+  pub room : HasSlots before.keys there.map.chain.shape
   pub account : after ≡ gave back (took there before)
   pub done : did there back
 
@@ -57,16 +65,26 @@ pub record HasTakenAll (of : SharedOf) (handles : List HandleOf) (before after :
       → handle.seat.chain.number ≡ i
   pub account : after ≡ took_all handles before
 
--- how many keys the map has, as the handle's seat knows it
-abbrev pub keys_known : HandleOf → ℕ
-keys_known handle = length (numbers.entries (map_of_log (log handle.seat)))
+-- the map, and how many keys it has, as the handle's seat knows it
+abbrev pub content_known : HandleOf → Numbers
+content_known handle = map_of_log (log handle.seat)
 
--- It made the map anew: what it gave back first is a handle of one with slots for twice the keys,
--- and for as many as the map is to have slots for at least.
+abbrev pub keys_known : HandleOf → ℕ
+keys_known handle = length (numbers.entries (content_known handle))
+
+-- the handle's seat has claimed slots for the keys of the map alone, as one of a new map has
+abbrev pub HasClaimedForItsKeys : HandleOf → Type 0
+HasClaimedForItsKeys handle =
+    HasAskedFor handle.map.chain.shape (map put_entry (numbers.entries (content_known handle)))
+    handle.seat.chain
+
+-- It made the map anew: what it gave back first is a handle of a new one with slots for twice the
+-- keys, and for as many as it is made anew for at least.
 pub record HasMadeMapAnew (of : SharedOf) (before after : Account) : Type 0 where
   pub first : HandleOf
   pub account : after ≡ began first before
-  pub room : HasSlots (max (2 * keys_known first) of.least) first.map.chain.shape
+  pub room : HasSlots (max (2 * keys_known first) (least_anew of)) first.map.chain.shape
+  pub claimed : HasClaimedForItsKeys first
 
 -- All handles that it took are home, its own one by its guest, which may have seen more.
 abbrev pub AreBackSeen : (before after : Account) → Type 0

@@ -5,7 +5,7 @@ ghost use Rattle.nb_core.specs.Calls.{Fills};
 ghost use Rattle.nb_core.specs.Log.{IsReplayed, log_of, map_of_log, reply_at};
 ghost use Rattle.nb_core.specs.declared.calls.Call.TheVariants as call;
 ghost use Rattle.nb_map.specs.NamedCalls.{add_of, put_if_absent_of, put_of, remove_if_of, remove_of, replace_if_of, replace_of};
-ghost use Rattle.nb_lasting.specs.Guests.{GuestHasCalled, GuestHasFound, GuestHasMatched, GuestHasRead, GuestHasReplied, GuestHasWorked, GuestIsRefused, HasLookedBy, HasLookedInTime, IsOfOneVisit, calls_left, left_with};
+ghost use Rattle.nb_lasting.specs.Guests.{GuestHasCalled, GuestHasFound, GuestHasMatched, GuestHasRead, GuestHasReplied, GuestHasWorked, GuestIsRefused, HasLookedBy, HasLookedInTime, HasTriedUntilDone, calls_left, left_with};
 ghost use Rattle.nb_lasting.specs.Holding.{HasTriedOnAs, IsIdleGuest};
 ghost use Rattle.nb_lasting.specs.Lasting.{IsNewKey, as_write_fault};
 ghost use Rattle.nb_lasting.specs.Tries.{HasTriedAlone};
@@ -124,7 +124,7 @@ impl Guest {
             (GuestHasReplied (call.Write key want.now change.now) self.old self.new) }
         ensures refused { IfErr result
             (GuestIsRefused (call.Write key want.now change.now) self.old self.new) }
-        ensures once { IsOfOneVisit (call.Write key want.now change.now) self.old self.new }
+        ensures once { HasTriedUntilDone (call.Write key want.now change.now) self.old self.new }
         ensures left { self.new.left ≡ self.old.left }
     {
         match self.try_write(rt, key, want, change) {
@@ -146,7 +146,7 @@ impl Guest {
             (GuestHasReplied (call.Write key want.now change.now) self.old self.new) }
         ensures refused { IfErr result
             (GuestIsRefused (call.Write key want.now change.now) self.old self.new) }
-        ensures once { IsOfOneVisit (call.Write key want.now change.now) self.old self.new }
+        ensures once { HasTriedUntilDone (call.Write key want.now change.now) self.old self.new }
         ensures left { self.new.left ≡ self.old.left }
     {
         self.known();

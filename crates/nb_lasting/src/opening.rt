@@ -1,10 +1,12 @@
 //! A new map, with its handles at home, and the first token.
-ghost use Rattle.std.specs.Prelude.{[], IfOk, Some, map, ◌*◌, ◌≡◌};
+ghost use Rattle.std.specs.Prelude.{[], IfOk, Some, map, ◌*◌, ◌≡◌, ◌≤◌};
+ghost use Rattle.nb_core.specs.declared.shapes.TheConstants.{MAX_SEATS};
 ghost use Rattle.nb_lasting.specs.Shared.{first_lane_view};
 
-use crate::shared::{LaneView, Lanes, SPACING, Token};
+use crate::shapes::shape_for;
+use crate::shared::{LaneView, Lanes, Opened, SPACING, Token};
 use atomic_table::Table;
-use nb_core::{OutOfMemory, Shape};
+use nb_core::OutOfMemory;
 use nb_map::Handle;
 use std::alloc::Global;
 
@@ -22,20 +24,27 @@ fn housed(alloc: Global, handles: Vec<Handle>) -> Result<Vec<Option<Handle>>, Ou
 /// A new map, with its handles at home, and the first token.
 pub(crate) fn open_row(
     alloc: Global,
-    shape: Shape,
-) -> Result<(Table<Option<Handle>, LaneView, Shape, Lanes, Global>, Token), OutOfMemory>
-    ensures fits { IfOk result (λ made. (made.0.shared.table_id.words ≡ 8 * shape.seats)
-        × (made.0.shared.table_id.slots ≡ shape.seats) × (made.0.shared.key ≡ shape)
+    opened: Opened,
+) -> Result<
+    (
+        Table<Option<Handle>, LaneView, Opened, Lanes, Global>,
+        Token,
+    ),
+    OutOfMemory,
+>
+    requires seats { (1 ≤ opened.seats) × (opened.seats ≤ MAX_SEATS) }
+    ensures fits { IfOk result (λ made. (made.0.shared.table_id.words ≡ 8 * opened.seats)
+        × (made.0.shared.table_id.slots ≡ opened.seats) × (made.0.shared.key ≡ opened)
         × (made.1.table_id ≡ made.0.shared.table_id)) }
-    ensures first { IfOk result (λ made. made.1.me ≡ (first_lane_view shape, [])) }
+    ensures first { IfOk result (λ made. made.1.me ≡ (first_lane_view opened, [])) }
 {
-    let handle = Handle::open(alloc, shape)?;
+    let handle = Handle::open(alloc, shape_for(opened.keys, opened.seats))?;
     let Ok(handles) = handle.split_all(alloc) else {
         return Err(OutOfMemory);
     };
     let slots = housed(alloc, handles)?;
-    let words = vec![in alloc; 0; SPACING * shape.seats()]?;
-    match Table::new(alloc, words.as_slice(), slots, &shape) {
+    let words = vec![in alloc; 0; SPACING * opened.seats]?;
+    match Table::new(alloc, words.as_slice(), slots, &opened) {
         Ok(made) => Ok(made),
         Err(_) => Err(OutOfMemory),
     }

@@ -7,7 +7,7 @@ ghost use Rattle.nb_map.specs.declared.faults.RenewFault.TheVariants as renew_fa
 ghost use Rattle.nb_map.specs.Handles.{HandleOf};
 ghost use Rattle.nb_lasting.specs.Gathered.{HaveTooMany};
 ghost use Rattle.nb_lasting.specs.Holding.{HasCalledIn, HasTriedOnAs, HasTriedIn, IsIdleGuest, tried_of};
-ghost use Rattle.nb_lasting.specs.Lasting.{IsNewKey};
+ghost use Rattle.nb_lasting.specs.Lasting.{HasSlots, IsNewKey};
 ghost use Rattle.nb_lasting.specs.Renewal.{AreAllHome, CanComeHome, CanDealAnew, CanDealBelow, HasBegunAs, HasBegunBy, HasComeHome, HasRoomAnew, HasTakenOne, HoldsBelow, KnowOneLog, HoldsStill, IsFullAt, IsIdleToken, IsSameGuest};
 ghost use Rattle.nb_lasting.specs.Shared.{FitsLanes};
 ghost use Rattle.nb_lasting.specs.Visits.{AreBack, HasGoneRound, HasMadeMapAnew, began, took_all};
@@ -74,11 +74,11 @@ fn deal_anew(row: &Row, token: &mut Token, handles: &mut Vec<Handle>, lane: usiz
     requires lane { lane + 1 ≡ row.now.key.seats }
     requires words { row.now.table_id.words ≡ 8 * row.now.key.seats }
     requires few { row.now.key.seats ≤ 256 }
-    requires holds { CanDealAnew (lane + 1) token.old.me handles.old.items }
+    requires holds { CanDealAnew row.now.key.keys (lane + 1) token.old.me handles.old.items }
     ensures table { token.new.table_id ≡ token.old.table_id }
     ensures guest { IsSameGuest token.old.me.0 token.new.me.0 }
     ensures begun { HasBegunBy handles.old.items token.old.me.0.account token.new.me.0.account }
-    ensures map { (can : CanDealAnew (lane + 1) token.old.me handles.old.items)
+    ensures map { (can : CanDealAnew row.now.key.keys (lane + 1) token.old.me handles.old.items)
         → token.new.me.0.map ≡ can.anew.shared }
     ensures holds { CanDealBelow lane token.new.me handles.new.items }
 {
@@ -194,12 +194,13 @@ fn deal_renewed(row: &Row, token: &mut Token, handles: Vec<Handle>)
     requires some { 1 ≤ row.now.key.seats }
     requires words { row.now.table_id.words ≡ 8 * row.now.key.seats }
     requires few { row.now.key.seats ≤ 256 }
-    requires anew { CanDealAnew (length handles.items) token.old.me handles.items }
+    requires anew { CanDealAnew row.now.key.keys (length handles.items) token.old.me
+        handles.items }
     ensures table { token.new.table_id ≡ token.old.table_id }
     ensures guest { IsSameGuest token.old.me.0 token.new.me.0 }
     ensures begun { HasBegunBy handles.items token.old.me.0.account token.new.me.0.account }
-    ensures map { (can : CanDealAnew (length handles.items) token.old.me handles.items)
-        → token.new.me.0.map ≡ can.anew.shared }
+    ensures map { (can : CanDealAnew row.now.key.keys (length handles.items) token.old.me
+        handles.items) → token.new.me.0.map ≡ can.anew.shared }
     ensures idle { IsIdleToken token.new.me }
 {
     let mut handles = handles;
@@ -219,6 +220,7 @@ fn renew_all<R: Wait>(
 ) -> Result<(), RenewFault>
     requires table { token.old.table_id ≡ hall.now.table.shared.table_id }
     requires shape { shape.seats ≡ hall.now.table.shared.key.seats }
+    requires room { HasSlots hall.now.table.shared.key.keys shape }
     requires seated { FitsLanes shape.seats token.old.me.0 }
     requires holds { HoldsStill shape.seats token.old.me handles.items }
     requires settled { KnowOneLog handles.items }

@@ -28,7 +28,7 @@ ghost use Rattle.nb_lasting.specs.Shared.{HasBegunAnew, HasDealt, HasGiven, HasT
 ghost use Rattle.nb_lasting.specs.Holding.{CanDeal, CanGive, CanRenew};
 
 use atomic_table::{Join, Play, Seat, Shared, Split, TableRule};
-use nb_core::{Event, Shape};
+use nb_core::Event;
 use nb_map::{Handle, Map};
 use std::collections::LinkedList;
 use std::sync::Wait;
@@ -48,10 +48,12 @@ pub struct Out {
     pub knew: LinkedList<Event>,
 }
 
-/// The handles that a token took, each as it was then; its guest's own one each time that the guest
-/// gave it back after its calls; and the first one that it gave back each time that it made the map
-/// anew, or was refused that. The newest is first. No value of it is made.
+/// For how many keys the map was opened that a token is of. The handles that it took, each as it was
+/// then; its guest's own one each time that the guest gave it back after its calls; and the first
+/// one that it gave back each time that it made the map anew, or was refused that. The newest is
+/// first. No value of it is made.
 pub struct Account {
+    pub keys: usize,
     pub taken: LinkedList<Handle>,
     pub returned: LinkedList<Handle>,
     pub begun: LinkedList<Handle>,
@@ -71,9 +73,16 @@ pub struct LaneView {
     pub account: Account,
 }
 
+/// For how many guests and keys a map was opened.
+#[derive(Clone, Copy)]
+pub struct Opened {
+    pub seats: usize,
+    pub keys: usize,
+}
+
 pub(crate) struct Lanes;
 
-impl TableRule<Option<Handle>, LaneView, Shape> for Lanes {
+impl TableRule<Option<Handle>, LaneView, Opened> for Lanes {
     ghost use Rattle.nb_lasting.specs.Shared.{IsOneLog, first_lane_view};
 
     ghost holds = { IsOneLog };
@@ -159,7 +168,7 @@ impl Join<LaneView> for Merge {
     ghost spent = { nobody };
 }
 
-pub(crate) type Row = Shared<Option<Handle>, LaneView, Shape, Lanes>;
+pub(crate) type Row = Shared<Option<Handle>, LaneView, Opened, Lanes>;
 
 pub(crate) type Token = Seat<Option<Handle>, LaneView>;
 

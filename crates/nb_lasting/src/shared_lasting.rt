@@ -1,13 +1,12 @@
 //! A map without an end that guests share, each in a thread of its own.
 ghost use Rattle.std.specs.Arc.{arc_value};
-ghost use Rattle.std.specs.Prelude.{All, Err, IfErr, IfOk, OnErr, [], is_ok, max, true, ◌≡◌, ◌≤◌, ◌↔◌};
+ghost use Rattle.std.specs.Prelude.{All, Err, IfErr, IfOk, OnErr, [], is_ok, true, ◌≡◌, ◌≤◌, ◌↔◌};
 ghost use Rattle.nb_core.specs.declared.shapes.TheConstants.{MAX_SEATS};
 ghost use Rattle.nb_map.specs.declared.faults.SettleFault.TheVariants as fault;
 ghost use Rattle.nb_lasting.specs.Closing.{AreNew};
 ghost use Rattle.nb_lasting.specs.Guests.{AreAllGuests, GuestsHaveSettled, HaveCome, HaveEnded};
 ghost use Rattle.nb_lasting.specs.Renewal.{IsIdleToken};
 ghost use Rattle.nb_lasting.specs.Shared.{first_lane_view};
-ghost use Rattle.nb_lasting.specs.declared.shapes.TheConstants.{LEAST_ANEW};
 ghost use Rattle.nb_lasting.specs.inside.Guests.{hall_of};
 
 use crate::closing::close_row;
@@ -15,8 +14,8 @@ use crate::guest::{Guest, LOOK_AFTER};
 use crate::hall::Hall;
 use crate::opening::open_row;
 use crate::settling::settle_guests;
-use crate::shapes::{LEAST_ANEW, shape_for};
-use crate::shared::{Token, another};
+use crate::shapes::LEAST_ANEW;
+use crate::shared::{Opened, Token, another};
 use nb_core::OutOfMemory;
 use nb_map::{Ended, Handle, SettleFault};
 use std::alloc::Global;
@@ -75,8 +74,8 @@ fn invited(
 }
 
 impl SharedLasting {
-    /// An empty map, and so many guests. It has room for about so many keys before it is made anew
-    /// for the first time, and at least for these whenever it was.
+    /// An empty map, and so many guests. It has slots for so many keys, at first and whenever it is
+    /// made anew.
     pub fn open(
         alloc: Global,
         guests: usize,
@@ -84,10 +83,14 @@ impl SharedLasting {
     ) -> Result<(SharedLasting, Vec<Guest>), OutOfMemory>
         requires guests { (1 ≤ guests) × (guests ≤ MAX_SEATS) }
         ensures come { IfOk result (λ made. HaveCome guests made.0 made.1.items) }
-        ensures least { IfOk result (λ made. made.0.least ≡ max keys LEAST_ANEW) }
+        ensures asked { IfOk result (λ made. made.0.keys ≡ keys) }
     {
         let room = Vec::with_capacity(alloc, guests)?;
-        let (table, mut token) = open_row(alloc, shape_for(keys, guests))?;
+        let opened = Opened {
+            seats: guests,
+            keys,
+        };
+        let (table, mut token) = open_row(alloc, opened)?;
         let hall = Hall {
             table,
             renewals: AtomicU64::new(0),

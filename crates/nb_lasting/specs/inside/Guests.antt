@@ -6,7 +6,7 @@ use Rattle.nb_core.specs.Log.{IsReplayed, Numbers, log_of}
 use Rattle.nb_core.specs.declared.calls.Call.{Call}
 use Rattle.nb_core.specs.declared.calls.Reply.{Reply}
 use Rattle.nb_map.specs.declared.faults.PutFault.{PutFault}
-use Rattle.nb_lasting.specs.Guests.{GuestHasCalled, GuestHasReplied, IsOfOneVisit, GuestIsRefused, GuestOf}
+use Rattle.nb_lasting.specs.Guests.{GuestHasCalled, GuestHasReplied, HasTriedUntilDone, GuestIsRefused, GuestOf}
 use Rattle.nb_lasting.specs.Holding.{CanGoOn, IsIdleGuest, IsJustIn}
 use Rattle.nb_lasting.specs.Renewal.{IsIdleToken}
 use Rattle.nb_lasting.specs.Tries.{HasTriedAlone}
@@ -22,7 +22,7 @@ abbrev pub hall_of : Hall → SharedOf
 hall_of hall = record {
   id = hall.table.shared.table_id;
   guests = hall.table.shared.key.seats;
-  least = hall.least;
+  keys = hall.table.shared.key.keys;
 }
 
 -- the guest, as contracts see it
@@ -73,8 +73,8 @@ pub record GuestHasBegun (call : Call) (before after : GuestOf) : Type 0 where
 abbrev pub HasTriedFirst :
     Call → (before after : GuestOf) → Result (Option Reply) WriteFault → Type 0
 HasTriedFirst call before after (Ok None) = GuestHasBegun call before after
-HasTriedFirst call before after (Ok (Some reply)) = IsOfOneVisit call before after
-HasTriedFirst call before after (Err fault) = IsOfOneVisit call before after
+HasTriedFirst call before after (Ok (Some reply)) = HasTriedUntilDone call before after
+HasTriedFirst call before after (Err fault) = HasTriedUntilDone call before after
 
 -- the guest, with so many calls left till it looks
 abbrev pub with_calls_left : ℕ → GuestOf → GuestOf

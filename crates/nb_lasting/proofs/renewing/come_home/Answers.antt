@@ -1,8 +1,4 @@
-use Rattle.std.proofs.Common.{◌∙◌, ap, subst}
-use Rattle.std.specs.Prelude.{None, Option}
-use Rattle.atomic_table.specs.Table.{Me}
-use Rattle.nb_map.specs.Handles.{HandleOf}
-use Rattle.nb_lasting.specs.declared.shared.LaneView.{LaneView}
+use Rattle.std.specs.Prelude.{None}
 use Rattle.nb_lasting.proofs.Dealt.{can-deal-else, can-give-own, come-else, come-own, dealt-account, given-account, slot_is}
 use Rattle.nb_lasting.proofs.renewing.come_home.Goals as goal
 

@@ -17,13 +17,13 @@ pub returns-clause-map : goal.returns-clause-map
 returns-clause-map c can =
     begun-map c.args.lane c.args.token.now.me c.exchange.new.seat.me c.give_anew.new.token.me
     c.pop.new.self.items c.args.handles.now.items c.in-Some.handle c.in-Some.ensures.items
-    c.exchange.ensures.3 can c.give_anew.ensures.given
+    c.exchange.ensures.3 c.args.row.now.key.keys can c.give_anew.ensures.given
 
 pub returns-clause-holds : goal.returns-clause-holds
 returns-clause-holds c =
     begun c.args.lane c.args.token.now.me c.exchange.new.seat.me c.give_anew.new.token.me
     c.pop.new.self.items c.args.handles.now.items c.in-Some.handle c.in-Some.ensures.items
-    c.exchange.ensures.3 c.requires.holds c.give_anew.ensures.given
+    c.exchange.ensures.3 c.args.row.now.key.keys c.requires.holds c.give_anew.ensures.given
 
 pub returns-clause-begun : goal.returns-clause-begun
 returns-clause-begun c = record {

@@ -22,7 +22,8 @@ deal_renewed-requires g c =
     let done = deals c.args.shape c.args.token.now.me c.args.handles.items
     c.parted_anew-handles.result.0.items (subst (λ n. 1 ≤ n) (sym seats) c.args.hall.now.some)
     (subst (λ n. n ≤ 256) (sym seats) c.args.hall.now.few) c.requires.seated c.requires.holds
-    c.requires.settled c.parted_anew-handles.result.1 c.parted_anew-handles.ensures in
+    c.requires.settled c.args.hall.now.table.shared.key.keys c.requires.room
+    c.parted_anew-handles.result.1 c.parted_anew-handles.ensures in
     record {
       table = c.requires.table;
       lanes = done.0 ∙ seats;
@@ -38,7 +39,8 @@ returns-clause-anew g c =
     let done = deals c.args.shape c.args.token.now.me c.args.handles.items
     c.parted_anew-handles.result.0.items (subst (λ n. 1 ≤ n) (sym seats) c.args.hall.now.some)
     (subst (λ n. n ≤ 256) (sym seats) c.args.hall.now.few) c.requires.seated c.requires.holds
-    c.requires.settled c.parted_anew-handles.result.1 c.parted_anew-handles.ensures in
+    c.requires.settled c.args.hall.now.table.shared.key.keys c.requires.room
+    c.parted_anew-handles.result.1 c.parted_anew-handles.ensures in
     done_ok c.parted_anew-handles.result.1 (λ shaped.
     ap (λ (m : MapOf). m.chain.shape) (c.deal_renewed.ensures.map done.1.0) ∙ shaped) done.1.1
 

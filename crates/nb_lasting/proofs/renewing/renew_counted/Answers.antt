@@ -4,6 +4,7 @@ use Rattle.nb_lasting.specs.Renewal.{HoldsStill}
 use Rattle.nb_lasting.specs.Lasting.{HasSlots}
 use Rattle.nb_lasting.proofs.Counted.{called-home, can-come-home, full-home, made-anew, nothing-seen, one-log, room-anew, room-left, still-by, still-holds}
 use Rattle.nb_lasting.proofs.Dealt.{still-dealt, still-single}
+use Rattle.nb_lasting.proofs.Sizes.{slots_fewer}
 use Rattle.nb_lasting.specs.inside.Guests.{hall_of}
 use Rattle.nb_lasting.proofs.renewing.renew_counted.Goals as goal
 
@@ -98,6 +99,11 @@ renew_all-requires-clause-settled g c =
     c.counted-handles.result.0.items c.args.hall.now.some c.args.hall.now.few c.requires.holds
     c.counted-handles.result.1 c.counted-handles.ensures c.in-Ok.size c.in-Ok.is
 
+pub renew_all-requires-clause-room : goal.renew_all-requires-clause-room
+renew_all-requires-clause-room g c =
+    slots_fewer c.shape_for-shape.result c.args.hall.now.table.shared.key.keys c.max-keys.result
+    (omega (arith, c.max-keys.ensures, c.args.hall.now.anew)) c.shape_for-shape.ensures.slots
+
 pub unreachable-requires : goal.unreachable-requires
 unreachable-requires g c =
     let n = c.args.hall.now.table.shared.key.seats in
@@ -142,7 +148,8 @@ returns-in-Ok-renew_all-clause-made g c =
     omega (arith, c.saturating_mul.ensures, c.max-keys.ensures, c.if-size-ge-GREATEST.false) in
     made-anew n me before after c.args.hall.now.some c.args.hall.now.few c.requires.holds
     c.counted-handles.result.1 c.counted-handles.ensures c.in-Ok.size c.in-Ok.is
-    c.shape_for-shape.result c.max-keys.result (hall_of c.args.hall.now) twice
+    c.shape_for-shape.result c.max-keys.result (hall_of c.args.hall.now)
+    (twice ∙ ap (max (2 * c.in-Ok.size)) c.args.hall.now.anew)
     c.shape_for-shape.ensures.slots
     me.0.account c.renew_all.new.token.me.0.account c.in-Ok-renew_all.ensures.begun
 

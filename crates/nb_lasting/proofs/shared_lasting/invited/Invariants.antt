@@ -8,6 +8,7 @@ abbrev pub invariant-loop-lane : goal.invariant-loop-lane
 invariant-loop-lane l = record {
   table : l.token.table_id ≡ l.fn.token.table_id;
   deals : l.token.me.0.dealer ≡ Some l.lane;
+  keys : l.token.me.0.account.keys ≡ (arc_value l.fn.hall).table.shared.key.keys;
   outs : l.token.me.0.outs ≡ [];
   slots : l.token.me.1 ≡ [];
   room : l.fn.guests ≤ vec_capacity l.made;

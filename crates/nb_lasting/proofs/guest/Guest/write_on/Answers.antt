@@ -1,4 +1,4 @@
-use Rattle.std.proofs.Common.{◌∙◌, ◌∷◌, [], Err, Ok, ap, refl, subst}
+use Rattle.std.proofs.Common.{◌∙◌, ◌∷◌, [], Ok, refl, subst}
 use Rattle.nb_core.specs.declared.calls.Call.TheVariants.{Write}
 use Rattle.nb_lasting.specs.Guests.{GuestIsRefused}
 use Rattle.nb_lasting.specs.inside.Guests.{GuestHasTried, HasTriedFirst}
