@@ -24,7 +24,7 @@ use Rattle.nb_lasting.specs.Renewal.{AreHeld, AreStill, CanComeHome, HasBegunAs,
 use Rattle.nb_lasting.specs.Visits.{HasMadeMapAnew, SharedOf, keys_known, least_anew}
 use Rattle.nb_lasting.specs.declared.shared.Account.{Account}
 use Rattle.nb_lasting.specs.declared.shared.LaneView.{LaneView}
-use Rattle.nb_lasting.specs.Lasting.{HasSlots}
+use Rattle.nb_lasting.specs.Lasting.{HasSlots, shape_made_for}
 
 -- what a token had seen before it gathered
 pub called-from :
@@ -185,8 +185,9 @@ module _
   pub made-anew :
       (result : Result ℕ SettleFault) → IsPartedCounted before after result → (size : ℕ)
       → result ≡ Ok size → (p : Plan) (keys : ℕ) (of : SharedOf) → keys ≡ max (2 * size) (least_anew of)
-      → HasSlots keys p → (a b : Account) → HasBegunAs p after a b → HasMadeMapAnew of a b
-  made-anew result is size counted p keys of twice room a b begun =
+      → HasSlots keys p → p ≡ shape_made_for keys of.guests → (a b : Account) → HasBegunAs p after a b
+      → HasMadeMapAnew of a b
+  made-anew result is size counted p keys of twice room shape a b begun =
       let known = still-by result is in
       let counts = if-ok result size
       (AreCountedIn me.0.map known.0.know before after) counted known.1 in
@@ -198,6 +199,9 @@ module _
         account = begun.account;
         room = subst (HasSlots (max (2 * keys_known begun.first) (least_anew of))) (sym begun.shape)
             (subst (λ k. HasSlots k p) (twice ∙ ap (λ k. max (2 * k) (least_anew of)) (sym same)) room);
+        shape = begun.shape ∙ shape
+            ∙ ap (λ k. shape_made_for k of.guests)
+            (twice ∙ ap (λ k. max (2 * k) (least_anew of)) (sym same));
         claimed = begun.claimed;
       }
 

@@ -1,11 +1,13 @@
 -- How many slots a map has for its keys.
-use Rattle.std.proofs.Common.{◌≡◌, ◌-◌, ◌^◌, ◌<◌, ◌≤◌, ◌⊎◌, ℕ, inl, inr, arith}
-use Rattle.std.specs.Prelude.{max, min}
+use Rattle.std.proofs.Common.{◌≡◌, ◌-◌, ◌^◌, ◌<◌, ◌≤◌, ◌⊎◌, ℕ, Bool, true, false, if◌then◌else◌, ap, inl, inr, arith}
+use Rattle.std.specs.Prelude.{Err, Ok, Result, max, min, nat_le, not}
 use Rattle.std.proofs.Math.Pow.{pow_mono}
 use Rattle.std.proofs.lemmas.Bool.{cases_lt}
-use Rattle.nb_core.specs.Plans.{HasRoomFor, Plan, generations_of}
+use Rattle.nb_core.specs.Plans.{HasRoomFor, Plan, checked_for_keys, generations_of, is_within, plan_for_keys}
+use Rattle.nb_core.specs.declared.shapes.ShapeFault.TheVariants as fault
+use Rattle.nb_core.specs.declared.shapes.ShapeFault.{ShapeFault}
 use Rattle.std.proofs.Common.{get_or}
-use Rattle.nb_core.specs.declared.shapes.TheConstants.{MOST_KEYS}
+use Rattle.nb_core.specs.declared.shapes.TheConstants.{MAX_SEATS, MOST_KEYS}
 use Rattle.nb_lasting.specs.Lasting.{HasSlots}
 
 -- a table with nearly as many slots as the greatest one is the greatest
@@ -37,3 +39,24 @@ has-slots p keys most is room = of (cases_lt MOST_KEYS (max keys 20))
     of (inr few) =
         let enough : most ≡ max keys 20 = omega (arith, few, is) in
         inl (omega (arith, room, enough))
+
+-- the plan that was asked for is made, or is the one that was there
+abbrev plan_in : Result Plan ShapeFault → Plan → Plan
+plan_in (Ok p) was = p
+plan_in (Err fault) was = was
+
+-- a shape that was made is that for so many keys
+pub made-for :
+    (p : Plan) (most seats : ℕ) → ◌≡◌ {A = Result Plan ShapeFault} (Ok p)
+    (checked_for_keys most seats)
+    → p ≡ plan_for_keys most seats
+made-for p most seats is = by (nat_le most MOST_KEYS) (is_within 1 MAX_SEATS seats) is
+  where
+    by : (a b : Bool)
+        → ◌≡◌ {A = Result Plan ShapeFault} (Ok p)
+        (if not a then Err fault.Keys else if not b then Err fault.Seats
+        else Ok (plan_for_keys most seats))
+        → p ≡ plan_for_keys most seats
+    by true true made = ap (λ r. plan_in r p) made
+    by true false made = absurd cc
+    by false b made = absurd cc

@@ -1,18 +1,19 @@
 -- What the calls of a map without an end do. A contract sees the map as a finite map: its keys with
 -- their numbers.
 use Rattle.std.specs.FinMap as numbers
-use Rattle.std.specs.Prelude.{◌≡◌, ◌<◌, ◌≤◌, ◌-◌, ◌^◌, ◌⊎◌, true, ℕ, Bool, Option, None, length}
+use Rattle.std.specs.Prelude.{◌≡◌, ◌<◌, ◌≤◌, ◌-◌, ◌^◌, ◌⊎◌, true, ℕ, Bool, Option, None, length, max, min}
 use Rattle.nb_core.specs.Calls.{Fills, overflows}
 use Rattle.nb_core.specs.History.{key_of_call}
 use Rattle.nb_core.specs.Log.{Numbers, map_after, reply_of}
-use Rattle.nb_core.specs.Plans.{Plan, generations_of, size_of}
+use Rattle.nb_core.specs.Plans.{Plan, generations_of, plan_for_keys, size_of}
 use Rattle.nb_core.specs.declared.calls.Call.{Call}
 use Rattle.nb_core.specs.declared.calls.Reply.{Reply}
-use Rattle.nb_core.specs.declared.shapes.TheConstants.{MAX_EXPONENT}
+use Rattle.nb_core.specs.declared.shapes.TheConstants.{MAX_EXPONENT, MOST_KEYS}
 use Rattle.nb_lasting.specs.declared.faults.GrowFault.TheVariants as grow_fault
 use Rattle.nb_lasting.specs.declared.faults.GrowFault.{GrowFault}
 use Rattle.nb_lasting.specs.declared.faults.WriteFault.TheVariants as fault
 use Rattle.nb_lasting.specs.declared.faults.WriteFault.{WriteFault}
+use Rattle.nb_lasting.specs.declared.shapes.TheConstants.{LEAST}
 
 -- ---- a call that is made
 
@@ -57,6 +58,10 @@ last_size p = size_of p (generations_of p - 1)
 -- the last table has more slots than this, or is the greatest one
 abbrev pub HasSlots : ℕ → Plan → Type 0
 HasSlots keys p = (keys < last_size p) ⊎ (2 ^ MAX_EXPONENT ≤ last_size p)
+
+-- the shape that a map for so many keys is made of, or the greatest one, with so many seats
+abbrev pub shape_made_for : (keys seats : ℕ) → Plan
+shape_made_for keys seats = plan_for_keys (min (max keys LEAST) MOST_KEYS) seats
 
 -- ---- refusals of two kinds
 

@@ -9,7 +9,9 @@ use Rattle.nb_map.specs.Bulk.{put_entry}
 use Rattle.nb_map.specs.Crowding.{HasAskedFor}
 use Rattle.nb_map.specs.Handles.{HandleOf}
 use Rattle.nb_map.specs.Logs.{log}
-use Rattle.nb_lasting.specs.Lasting.{HasSlots}
+use Rattle.nb_map.specs.Maps.{MapOf, SeatOf}
+use Rattle.nb_map.specs.Settling.{HaveSettled}
+use Rattle.nb_lasting.specs.Lasting.{HasSlots, shape_made_for}
 use Rattle.nb_lasting.specs.declared.shapes.TheConstants.{LEAST_ANEW}
 use Rattle.nb_lasting.specs.declared.shared.Account.{Account}
 
@@ -78,12 +80,14 @@ HasClaimedForItsKeys handle =
     HasAskedFor handle.map.chain.shape (map put_entry (numbers.entries (content_known handle)))
     handle.seat.chain
 
--- It made the map anew: what it gave back first is a handle of a new one with slots for twice the
--- keys, and for as many as it is made anew for at least.
+-- It made the map anew: what it gave back first is a handle of a new one, of the shape for twice the
+-- keys, and for as many as it is made anew for at least. So it has slots for these.
 pub record HasMadeMapAnew (of : SharedOf) (before after : Account) : Type 0 where
   pub first : HandleOf
   pub account : after ≡ began first before
   pub room : HasSlots (max (2 * keys_known first) (least_anew of)) first.map.chain.shape
+  pub shape :
+      first.map.chain.shape ≡ shape_made_for (max (2 * keys_known first) (least_anew of)) of.guests
   pub claimed : HasClaimedForItsKeys first
 
 -- All handles that it took are home, its own one by its guest, which may have seen more.
@@ -103,3 +107,17 @@ HasGoneRound of Back before after =
     (after ≡ before)
     ⊎ ((handles : List HandleOf) × (then : Account) × HasTakenAll of handles before then
     × Back then after)
+
+-- It took all handles once, and counted the map by them: their seats settled, and know the one log
+-- of all calls then, which leaves so many keys. They are home so.
+pub record HasCountedByAll (lane : ℕ) (of : SharedOf) (before after : Account) (size : ℕ) :
+    Type 0 where
+  pub handles : List HandleOf
+  pub then : Account
+  pub taken : HasTakenAll of handles before then
+  pub counted : MapOf
+  pub seats : List SeatOf
+  pub settled : HaveSettled counted (map (λ handle. handle.seat) handles) seats size
+  pub back : HandleOf
+  pub own : slice_get seats lane ≡ Some back.seat
+  pub account : after ≡ gave back then

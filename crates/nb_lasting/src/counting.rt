@@ -3,7 +3,7 @@ ghost use Rattle.std.specs.FinMap as numbers;
 ghost use Rattle.std.specs.Prelude.{IfOk, [], length, ◌<◌, ◌≡◌};
 ghost use Rattle.nb_core.specs.Log.{IsReplayed, log_of, map_of_log};
 ghost use Rattle.nb_lasting.specs.Holding.{HasCalledIn, IsIdleGuest};
-ghost use Rattle.nb_lasting.specs.Visits.{AreBackSeen, HasGoneRound};
+ghost use Rattle.nb_lasting.specs.Visits.{AreBackSeen, HasCountedByAll, HasGoneRound};
 ghost use Rattle.nb_lasting.specs.inside.Guests.{hall_of};
 
 use crate::gathered::counted;
@@ -30,6 +30,8 @@ pub(crate) fn count_through<R: Wait>(
     ensures called { HasCalledIn lane token.old.me.0 token.new.me.0 [] }
     ensures round { HasGoneRound (hall_of hall.now) AreBackSeen token.old.me.0.account
         token.new.me.0.account }
+    ensures counted { IfOk result (HasCountedByAll lane (hall_of hall.now) token.old.me.0.account
+        token.new.me.0.account) }
     ensures size { IfOk result (λ size.
         size ≡ length (numbers.entries (map_of_log (log_of token.new.me.0.seen)))) }
 {

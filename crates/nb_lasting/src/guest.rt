@@ -9,7 +9,7 @@ ghost use Rattle.nb_lasting.specs.Guests.{GuestHasCalled, GuestHasFound, GuestHa
 ghost use Rattle.nb_lasting.specs.Holding.{HasTriedOnAs, IsIdleGuest};
 ghost use Rattle.nb_lasting.specs.Lasting.{IsNewKey, as_write_fault};
 ghost use Rattle.nb_lasting.specs.Tries.{HasTriedAlone};
-ghost use Rattle.nb_lasting.specs.Visits.{AreBack, AreBackSeen, HasGoneRound};
+ghost use Rattle.nb_lasting.specs.Visits.{AreBack, AreBackSeen, HasCountedByAll, HasGoneRound};
 ghost use Rattle.nb_lasting.specs.inside.Guests.{GuestHasTried, HasTriedFirst, HasWrittenHere, NeverOverflows, with_calls_left};
 
 use crate::counting::count_through;
@@ -255,6 +255,8 @@ impl Guest {
         ensures of { self.new.of ≡ self.old.of }
         ensures called { GuestHasCalled self.old self.new [] }
         ensures round { HasGoneRound self.old.of AreBackSeen self.old.account self.new.account }
+        ensures counted { IfOk result
+            (HasCountedByAll self.old.number self.old.of self.old.account self.new.account) }
         ensures size { IfOk result (λ size.
             size ≡ length (numbers.entries (map_of_log self.new.log))) }
         ensures left { self.new.left ≡ self.old.left }

@@ -1,7 +1,7 @@
 //! The shape of a map for so many keys.
 ghost use Rattle.std.specs.Prelude.{◌≡◌, ◌≤◌, max};
 ghost use Rattle.nb_core.specs.declared.shapes.TheConstants.{MAX_SEATS, MOST_KEYS};
-ghost use Rattle.nb_lasting.specs.Lasting.{HasSlots};
+ghost use Rattle.nb_lasting.specs.Lasting.{HasSlots, shape_made_for};
 
 use nb_core::{MAX_EXPONENT, MOST_KEYS, Shape};
 
@@ -19,6 +19,7 @@ pub(crate) fn shape_for(keys: usize, seats: usize) -> Shape
     requires seats { (1 ≤ seats) × (seats ≤ MAX_SEATS) }
     ensures seats { result.seats ≡ seats }
     ensures slots { HasSlots keys result }
+    ensures shape { result ≡ shape_made_for keys seats }
 {
     match Shape::for_keys(keys.max(LEAST).min(MOST_KEYS), seats) {
         Ok(shape) => shape,

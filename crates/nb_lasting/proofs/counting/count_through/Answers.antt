@@ -1,13 +1,15 @@
-use Rattle.std.proofs.Common.{◌∙◌, ◌<◌, ◌≤◌, ap, arith, inl, inr}
+use Rattle.std.proofs.Common.{◌∙◌, ◌<◌, ◌≤◌, Some, ap, arith, inl, inr, slice_get, subst, sym}
 use Rattle.std.specs.Prelude.{Option}
 use Rattle.atomic_table.specs.Table.{Me}
 use Rattle.nb_core.specs.Log.{log_of}
-use Rattle.nb_map.specs.Handles.{HandleOf}
+use Rattle.nb_map.specs.Handles.{HandleOf, seats_of}
+use Rattle.nb_map.specs.Settling.{HaveSettled}
 use Rattle.nb_lasting.specs.declared.shared.LaneView.{LaneView}
 use Rattle.nb_lasting.specs.inside.Guests.{hall_of}
-use Rattle.nb_lasting.proofs.Counted.{called-home, can-come-home, size-home, still-by}
+use Rattle.nb_lasting.proofs.Counted.{called-home, can-come-home, if-ok, size-home, still-by}
 use Rattle.nb_lasting.proofs.Dealt.{held-still, still-single}
 use Rattle.nb_lasting.proofs.Going.{taken-all}
+use Rattle.nb_lasting.proofs.Renewed.{mapped-at}
 use Rattle.nb_lasting.proofs.counting.count_through.Goals as goal
 
 pub counted-handles-requires : goal.counted-handles-requires
@@ -127,3 +129,28 @@ returns-in-Err-clause-round g c =
           c.in_ok-handles.ensures.taken,
       (c.all_home.ensures.home.0, c.all_home.ensures.home.2),
     )
+
+pub returns-in-Ok-clause-counted : goal.returns-in-Ok-clause-counted
+returns-in-Ok-clause-counted g c =
+    let is = c.counted-handles.ensures in
+    let home = c.all_home.ensures.home in
+    let seat = mapped-at is.whole.map (seats_of is.whole) c.args.lane home.0
+    (ap (λ hs. slice_get hs c.args.lane) (sym is.parted) ∙ home.1) in
+    record {
+      handles = c.in_ok-handles.handles.items;
+      then = c.gather_all.new.token.me.0.account;
+      taken = taken-all (hall_of c.args.hall.now) c.slot_count-seats.result
+          c.args.token.now.me.0.account c.gather_all.new.token.me c.in_ok-handles.handles.items
+          (c.slot_count-seats.ensures ∙ c.args.hall.now.slots) c.in_ok-handles.ensures.holds
+          c.in_ok-handles.ensures.taken;
+      counted = is.joined.map;
+      seats = seats_of is.whole;
+      settled = subst (λ seats. HaveSettled is.joined.map seats (seats_of is.whole) c.in-Ok.size)
+          is.seats
+          (if-ok c.counted-handles.result.1 c.in-Ok.size
+          (HaveSettled is.joined.map (seats_of is.joined) (seats_of is.whole)) c.in-Ok.is
+          is.settled);
+      back = home.0;
+      own = seat.1 ∙ ap (λ (h : HandleOf). Some h.seat) (sym seat.2);
+      account = home.2;
+    }

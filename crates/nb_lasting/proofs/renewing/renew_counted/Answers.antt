@@ -1,7 +1,7 @@
 use Rattle.std.proofs.Common.{◌≡◌, ◌∙◌, ◌*◌, ◌<◌, ◌≤◌, ◌^◌, Err, ap, arith, inl, inr, max, refl, subst, sym}
 use Rattle.nb_core.specs.Log.{log_of}
 use Rattle.nb_lasting.specs.Renewal.{HoldsStill}
-use Rattle.nb_lasting.specs.Lasting.{HasSlots}
+use Rattle.nb_lasting.specs.Lasting.{HasSlots, shape_made_for}
 use Rattle.nb_lasting.proofs.Counted.{called-home, can-come-home, full-home, made-anew, nothing-seen, one-log, room-anew, room-left, still-by, still-holds}
 use Rattle.nb_lasting.proofs.Dealt.{still-dealt, still-single}
 use Rattle.nb_lasting.proofs.Sizes.{slots_fewer}
@@ -151,6 +151,8 @@ returns-in-Ok-renew_all-clause-made g c =
     c.shape_for-shape.result c.max-keys.result (hall_of c.args.hall.now)
     (twice ∙ ap (max (2 * c.in-Ok.size)) c.args.hall.now.anew)
     c.shape_for-shape.ensures.slots
+    (c.shape_for-shape.ensures.shape
+    ∙ ap (shape_made_for c.max-keys.result) (c.slot_count.ensures ∙ c.args.hall.now.slots))
     me.0.account c.renew_all.new.token.me.0.account c.in-Ok-renew_all.ensures.begun
 
 pub returns-in-Ok-renew_all-clause-called : goal.returns-in-Ok-renew_all-clause-called

@@ -1,7 +1,8 @@
 use Rattle.std.proofs.Common.{[], refl, subst}
+use Rattle.std.specs.Prelude.{IfOk}
 use Rattle.nb_core.specs.Log.{log_of}
 use Rattle.nb_lasting.specs.Guests.{GuestHasCalled, GuestOf}
-use Rattle.nb_lasting.specs.Visits.{AreBackSeen, HasGoneRound}
+use Rattle.nb_lasting.specs.Visits.{AreBackSeen, HasCountedByAll, HasGoneRound}
 use Rattle.nb_lasting.specs.declared.hall.Hall.{Hall}
 use Rattle.nb_lasting.specs.inside.Guests.{guest_of, hall_of}
 use Rattle.nb_lasting.proofs.Visiting.{called_through}
@@ -26,3 +27,12 @@ returns-clause-round g c =
     subst (λ (guest : GuestOf). HasGoneRound guest.of AreBackSeen guest.account new) c.self.view_is
     (subst (λ (hall : Hall). HasGoneRound (hall_of hall) AreBackSeen
     c.self.inside.token.me.0.account new) c.deref.ensures c.count_through.ensures.round)
+
+pub returns-clause-counted : goal.returns-clause-counted
+returns-clause-counted g c =
+    let new = c.count_through.new.token.me.0.account in
+    let result = c.count_through.result in
+    subst (λ (guest : GuestOf). IfOk result (HasCountedByAll guest.number guest.of guest.account new))
+    c.self.view_is
+    (subst (λ (hall : Hall). IfOk result (HasCountedByAll c.self.inside.lane (hall_of hall)
+    c.self.inside.token.me.0.account new)) c.deref.ensures c.count_through.ensures.counted)
