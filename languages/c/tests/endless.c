@@ -1210,7 +1210,7 @@ static void sizes_lists_and_walks_are_whole_through_divisions(void)
 {
     const uint32_t seats[] = {8, 2};
     for (int round = 0; round < 2; round++) {
-        samvolip_map *map = open_map(1, seats[round], 0);
+        samvolip_map *map = open_map(1, seats[round], round ? SAMVOLIP_KEYS_AS_THEY_ARE : SAMVOLIP_KEYS_SECRET);
         for (uint64_t key = 0; key < BASE; key++)
             EXPECT(samvolip_map_put(map, OWN / 2 + key, key, NULL) == SAMVOLIP_ABSENT);
         work_by_the_clock(map, 5, change_parts_or_write);
@@ -1242,11 +1242,11 @@ static void an_estimate_is_exact_through_divisions(void)
 }
 
 /* Walks that began before a division, within it and after it show what there was. */
-static void walks_stay_through_a_division_and_back(void)
+static void walks_stay_through_divisions(uint32_t kind)
 {
     enum { COUNT = 30000, TIMES = 5 };
     const uint64_t rooms[TIMES] = {100000, 1, 200000, 100000, 1};
-    samvolip_map *map = open_map(1, 1, 0);
+    samvolip_map *map = open_map(1, 1, kind);
     samvolip_map_walk *walks[TIMES + 1];
     samvolip_entry *entries = malloc(COUNT * sizeof *entries);
     EXPECT(entries != NULL);
@@ -1269,6 +1269,40 @@ static void walks_stay_through_a_division_and_back(void)
     }
     free(entries);
     samvolip_map_free(map);
+}
+
+static void walks_stay_through_a_division_and_back(void)
+{
+    walks_stay_through_divisions(SAMVOLIP_KEYS_SECRET);
+    walks_stay_through_divisions(SAMVOLIP_KEYS_AS_THEY_ARE);
+}
+
+/* The greatest keys and the least ones are there, and shown, in a map that is divided, joined and divided again. */
+static void the_greatest_keys_are_there_in_parts_too(void)
+{
+    enum { COUNT = 200 };
+    const uint64_t rooms[] = {200000, 1, 200000};
+    for (uint32_t kind = SAMVOLIP_KEYS_SECRET; kind <= SAMVOLIP_KEYS_AS_THEY_ARE; kind++) {
+        samvolip_map *map = open_map(200000, 1, kind);
+        samvolip_entry entries[2 * COUNT];
+        uint64_t number, count;
+        for (uint64_t i = 0; i < COUNT; i++) {
+            EXPECT(samvolip_map_put(map, i, i, NULL) == SAMVOLIP_ABSENT);
+            EXPECT(samvolip_map_put(map, SAMVOLIP_KEY_MAX - i, i, NULL) == SAMVOLIP_ABSENT);
+        }
+        for (int turn = 0; turn < 3; turn++) {
+            EXPECT(samvolip_map_renew(map, rooms[turn]) == SAMVOLIP_OK);
+            EXPECT(samvolip_map_snapshot(map, entries, 2 * COUNT, &count) == SAMVOLIP_OK && count == 2 * COUNT);
+            for (uint64_t i = 0; i < count; i++) {
+                const uint64_t key = entries[i].key;
+                EXPECT(entries[i].number == (key < COUNT ? key : SAMVOLIP_KEY_MAX - key) && entries[i].number < COUNT);
+                EXPECT(samvolip_map_get(map, key, &number) == SAMVOLIP_PRESENT && number == entries[i].number);
+            }
+            for (uint64_t key = SAMVOLIP_KEY_MAX; ++key != 0;)
+                all_refuse(map, key, 1, SAMVOLIP_E_KEY_RANGE);
+        }
+        samvolip_map_free(map);
+    }
 }
 
 /* Whether a key belongs to the part of number 1 of a divided map that mixes nothing, and has parts by so many bits. */
@@ -1824,6 +1858,7 @@ static const struct {
     TEST(sizes_lists_and_walks_are_whole_through_divisions),
     TEST(an_estimate_is_exact_through_divisions),
     TEST(walks_stay_through_a_division_and_back),
+    TEST(the_greatest_keys_are_there_in_parts_too),
     TEST(keys_of_one_part_are_no_trouble),
     TEST(a_map_with_much_room_keeps_it),
     TEST(children_and_parents_go_on),
