@@ -13,5 +13,6 @@ pub mod ReadingLemmas
 pub mod RestLemmas
 pub mod RowsLemmas
 pub mod SourceLemmas
+pub mod StoppedLemmas
 pub mod TallyLemmas
 pub mod Theorems

@@ -71,6 +71,17 @@ lines-append (byte ∷ text) more = of (byte == 10) (lines-append text more)
         ap (onto byte) same
         ∙ onto-append byte (lines_in (text ++ 10 ∷ [])) (lines_in more) (lines-some text)
 
+-- a text with a newline
+pub cut-at :
+    (text : List ℕ) (n : ℕ) → n < length text → slice_index text n ≡ 10
+    → text ≡ take n text ++ 10 ∷ drop (n + 1) text
+cut-at text n less is =
+    let front : take (n + 1) text ≡ take n text ++ 10 ∷ []
+    = take_more text n 0 less ∙ ap (λ byte. take n text ++ byte ∷ []) is in
+    sym (take-append-drop (n + 1) text)
+    ∙ ap (λ front. front ++ drop (n + 1) text) front
+    ∙ append_assoc (take n text) (10 ∷ []) (drop (n + 1) text)
+
 -- a text that is cut behind a newline
 pub lines-cut :
     (text : List ℕ) (n : ℕ) → n < length text → slice_index text n ≡ 10

@@ -36,28 +36,15 @@ use Rattle.nb_texts.specs.Claims.{ClaimsOnly, HasClaimedBy}
 use Rattle.nb_texts.specs.Clues.{ArePartedFrom, HasOnlyLooked}
 use Rattle.nb_texts.specs.Entering.{AreReplayed, HasEntered, HasNoSlot, HasNoRoomFor, IsIndex, PutsIfAbsent, calls_in, map_after_calls}
 use Rattle.nb_texts.specs.Lines.{is_among, with_new_lines}
+use Rattle.nb_texts.specs.Stopped.{HasMadeSince, HasReadSince}
 use Rattle.nb_texts.proofs.ClaimLemmas.{claims-caught, claims-weaker, filled-later, has-filled, others-few, puts-fill}
 use Rattle.nb_texts.proofs.ClueLemmas.{zip-all}
 use Rattle.nb_texts.proofs.LinesLemmas.{with-append, with-longer}
 
--- ---- what a seat has made since a log
-
--- these calls
-pub record HasMadeSince (base : List Entry) (made : List (Call × Reply)) (seat : SeatOf) : Type 0 where
-  pub later : List Entry
-  pub is : log seat ≡ later ++ base
-  pub calls : calls_of seat.chain.number later ≡ made
-
--- reads alone
-pub record HasReadSince (base : List Entry) (seat : SeatOf) : Type 0 where
-  pub later : List Entry
-  pub is : log seat ≡ later ++ base
-  pub reads : All IsRead (calls_of seat.chain.number later)
-
 -- ---- entries of one seat's calls, among others' reads
 
 -- a read leaves the map
-read-leaves : (made : Call × Reply) (m : Numbers) → IsRead made → map_after made.0 m ≡ m
+pub read-leaves : (made : Call × Reply) (m : Numbers) → IsRead made → map_after made.0 m ≡ m
 read-leaves made m read = ap (λ (made : Call × Reply). map_after made.0 m) read.2
 
 module _ (number seats : ℕ) where
@@ -205,7 +192,7 @@ one-log whole seat reserve all =
     (All-tail P seat reserve all)
 
 -- a seat that knows a log alone has made no call since
-read-nothing : (base : List Entry) (seat : SeatOf) → log seat ≡ base → HasReadSince base seat
+pub read-nothing : (base : List Entry) (seat : SeatOf) → log seat ≡ base → HasReadSince base seat
 read-nothing base seat knows = record { later = []; is = knows; reads = All-nil IsRead }
 
 -- ---- a map is made anew
@@ -282,7 +269,7 @@ module _
         subst (λ reserve. All Q ((reader.seat ∷ reserve) ++ all_seats readers)) (sym here.1)
         (All-cons Q reader.seat (all_seats readers) here.0 rest)
 
-    others-all :
+    pub others-all :
         (before parted after : HandleOf) (readers readers' : List HandleOf) → before.map ≡ m
         → ArePartedFrom before parted readers → AllZip HasOnlyLooked readers readers'
         → KeepsRest parted after → All P before.reserve

@@ -1,16 +1,16 @@
 -- An input that is read piece by piece, and cut behind a newline.
-use Rattle.std.proofs.Common.{◌≡◌, ◌≢◌, ◌∙◌, ◌+◌, ◌-◌, ◌<◌, ◌≤◌, ◌==◌, ℕ, suc, Bool, true, false, cond, List, [], ◌∷◌, ◌++◌, None, Option, Some, IfSome, ap, append-nil, append_assoc, arith, drop, length, length-append, length-drop, refl, slice_index, subst, sym}
+use Rattle.std.proofs.Common.{◌≡◌, ◌≢◌, ◌∙◌, ◌+◌, ◌-◌, ◌<◌, ◌≤◌, ◌==◌, ℕ, suc, Bool, true, false, cond, List, [], ◌∷◌, ◌++◌, None, Option, Some, IfSome, ap, append-nil, append_assoc, arith, drop, inl, length, length-append, length-drop, length-take, refl, slice_index, subst, sym, take}
 use Rattle.std.proofs.lemmas.Bool.{eq-eqb, ne_eqb}
-use Rattle.std.proofs.lemmas.List.{get_or-drop}
+use Rattle.std.proofs.lemmas.List.{drop-drop, get_or-drop, get_or-take, take-append-drop}
 use Rattle.std.proofs.lemmas.List.Elements.{All-append, All-from_get_or}
 use Rattle.std.proofs.lemmas.List.Sums.{sum_by-cons}
 use Rattle.std.specs.Prelude.{count_by}
 use Rattle.std.specs.Bool.{OnTrue}
 use Rattle.std.specs.Io.KnownBytes.{Consumes, IsAtEnd, Keeps}
 use Rattle.nb_texts.specs.Lines.{lines_in, onto}
-use Rattle.nb_texts.specs.Sources.{HasCut, HasTakenIn, IsBlock, IsInOneLine}
+use Rattle.nb_texts.specs.Sources.{HasCut, HasTakenIn, IsBlock, IsCutBehind, IsInOneLine}
 use Rattle.nb_texts.specs.declared.source.Turn.TheVariants.{Cut, Ended, More}
-use Rattle.nb_texts.proofs.LinesLemmas.{lines-append}
+use Rattle.nb_texts.proofs.LinesLemmas.{cut-at, lines-append}
 
 -- ---- the first line of a block
 
@@ -76,6 +76,32 @@ one-behind text n other =
     All-from_get_or (λ byte. byte ≢ 10) (drop n text) 0
     (λ i less is. other (n + i) (omega arith) (omega (arith, less, length-drop n text))
     (sym (get_or-drop n text i 0) ∙ is))
+
+-- before the first one
+one-before :
+    (text : List ℕ) (n : ℕ) → ((k : ℕ) → k < n → slice_index text k ≢ 10)
+    → IsInOneLine (take n text)
+one-before text n other =
+    All-from_get_or (λ byte. byte ≢ 10) (take n text) 0
+    (λ i less is.
+    let before : i < n = omega (arith, less, length-take n text) in
+    other i before (sym (get_or-take n text i 0 before) ∙ is))
+
+-- a text that is cut behind its first newline from a place on
+pub cut-from :
+    (text : List ℕ) (at more : ℕ) → at + more < length text → slice_index (drop at text) more ≡ 10
+    → ((k : ℕ) → k < more → slice_index (drop at text) k ≢ 10)
+    → IsCutBehind at text (take (at + more + 1) text) (drop (at + more + 1) text)
+cut-from text at more less is before =
+    let next : at + (more + 1) ≡ at + more + 1 = omega arith in
+    record {
+      line = take more (drop at text);
+      one = one-before (drop at text) more before;
+      whole = sym (take-append-drop (at + more + 1) text);
+      cut = inl (cut-at (drop at text) more (omega (arith, less, length-drop at text)) is
+          ∙ ap (λ behind. take more (drop at text) ++ 10 ∷ behind)
+          (drop-drop (more + 1) at text ∙ ap (λ n. drop n text) next));
+    }
 
 -- ---- how many lines a text has
 

@@ -62,6 +62,16 @@ pub record HasEntered (p : Plan) (key : List ℕ → ℕ → ℕ) (before after 
       (m : Numbers) → AreReplayed made m → IsIndex key texts m
       → IsIndex key texts' (map_after_calls made m) × (texts' ≡ with_new_lines texts lines)
 
+-- The seat has made calls. If they reply as a map does that is an index of the texts, the map that they
+-- leave is an index of those that there are now.
+pub record HasKeptIndex (key : List ℕ → ℕ → ℕ) (before after : SeatOf) (texts texts' : List (List ℕ)) :
+    Type 0 where
+  pub made : List (Call × Reply)
+  pub logged : HasLogged before after made
+  pub told :
+      (m : Numbers) → AreReplayed made m → IsIndex key texts m
+      → IsIndex key texts' (map_after_calls made m)
+
 -- The seat has claimed slots for a put at this key alone, which is refused: other keys have all slots.
 pub record HasNoSlot (p : Plan) (key : ℕ) (before after : SeatOf) : Type 0 where
   pub number : ℕ

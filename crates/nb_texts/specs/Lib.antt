@@ -10,4 +10,5 @@ pub mod Memory
 pub mod Places
 pub mod Rows
 pub mod Sources
+pub mod Stopped
 pub mod Tallies

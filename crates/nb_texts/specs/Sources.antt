@@ -1,5 +1,5 @@
 -- What a read of a block does to the lines of an input.
-use Rattle.std.specs.Prelude.{◌≡◌, ◌≢◌, ◌+◌, ◌≤◌, ◌⊎◌, Bool, false, List, All, [], ◌∷◌, ◌++◌, ℕ, Option, Some, IfSome, length}
+use Rattle.std.specs.Prelude.{◌≡◌, ◌≢◌, ◌+◌, ◌≤◌, ◌⊎◌, Bool, false, List, All, [], ◌∷◌, ◌++◌, ℕ, Option, Some, IfSome, drop, length}
 use Rattle.std.specs.Io.KnownBytes.{Consumes, IsAtEnd}
 use Rattle.nb_lines.specs.declared.faults.ProgramFault.TheVariants as fault
 use Rattle.nb_lines.specs.declared.faults.ProgramFault.{ProgramFault}
@@ -26,6 +26,14 @@ pub record IsBlock (ahead : ℕ) (block : List ℕ) : Type 0 where
 -- it is no more than a line, or a part of one
 abbrev pub IsInOneLine : List ℕ → Type 0
 IsInOneLine text = All (λ byte. byte ≢ 10) text
+
+-- A text is cut behind the first newline from a place on; where none is there, it is all in front.
+pub record IsCutBehind (at : ℕ) (text front behind : List ℕ) : Type 0 where
+  pub line : List ℕ
+  pub one : IsInOneLine line
+  pub whole : text ≡ front ++ behind
+  pub cut :
+      (drop at text ≡ line ++ 10 ∷ behind) ⊎ ((drop at text ≡ line) × (behind ≡ []))
 
 -- A part that is cut ends with a newline, and no newline is behind it. Else nothing is behind it: it has
 -- no newline, or where the input has ended, is empty.

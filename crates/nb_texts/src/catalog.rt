@@ -1,23 +1,23 @@
 //! A catalog: the distinct lines of a stream, found by their hashes in a map.
-ghost use Rattle.std.specs.Prelude.{◌≡◌, ◌+◌, ◌*◌, ◌^◌, ◌≤◌, ◌<◌, ◌↔◌, ◌++◌, [], ◌∷◌, ℕ, All, IfErr, IfOk, IsOkUnless, IsTrue, MatchOption, None, OnErr, OnOk, Some, drop, length, map, max, min, slice_get, sum_by};
+ghost use Rattle.std.specs.Prelude.{◌≡◌, ◌+◌, ◌*◌, ◌^◌, ◌≤◌, ◌<◌, ◌↔◌, ◌++◌, [], ◌∷◌, ℕ, All, IfErr, IfOk, IsOk, IsOkUnless, IsTrue, MatchOption, None, OnErr, OnOk, Option, Some, drop, length, map, max, min, slice_get, sum_by};
 ghost use Rattle.std.specs.Bool.{OnFalse, OnTrue};
 ghost use Rattle.nb_core.specs.Meaning.{IsCrowded};
 ghost use Rattle.nb_core.specs.Plans.{HasRoomFor};
 ghost use Rattle.nb_core.specs.declared.shapes.TheConstants.{MOST_KEYS};
 ghost use Rattle.nb_lines.specs.declared.faults.ProgramFault.TheVariants as fault;
-ghost use Rattle.nb_map.specs.Handles.{IsSameMap, IsWhole, KeepsRest, all_seats, handle_on, seats_of};
+ghost use Rattle.nb_map.specs.Handles.{IsSameMap, IsWhole, KeepsRest, all_seats, seats_of};
 ghost use Rattle.nb_map.specs.Logs.{HasFound, HasLogged};
-ghost use Rattle.nb_map.specs.NamedCalls.{put_if_absent_of};
-ghost use Rattle.nb_map.specs.OneSeat.{held};
-ghost use Rattle.nb_map.specs.Opening.{IsTooSmallFor};
+ghost use Rattle.nb_map.specs.NamedCalls.{put_if_absent_of, remove_of};
+ghost use Rattle.nb_map.specs.Renewing.{HasRenewed, HasTooMany, IsKept};
 ghost use Rattle.nb_map.specs.Settling.{HaveSettled};
-ghost use Rattle.nb_texts.specs.Catalogs.{HaveClaimed, HaveOneLog, IsNoRoom};
+ghost use Rattle.nb_texts.specs.declared.catalog.TheConstants.{MOST_READERS};
+ghost use Rattle.nb_texts.specs.Catalogs.{IsNoRoom};
 ghost use Rattle.nb_texts.specs.Claims.{HasClaimedBy};
 ghost use Rattle.nb_texts.specs.Clues.{AreCluesTo, ArePartedFrom, HaveOnlyLooked, IsClueTo};
-ghost use Rattle.nb_texts.specs.Entering.{HasEntered, HasNoRoomFor};
+ghost use Rattle.nb_texts.specs.Entering.{HasEntered, HasKeptIndex, HasNoRoomFor};
 ghost use Rattle.nb_texts.specs.Hashes.{hash_of, key_for};
 ghost use Rattle.nb_texts.specs.Lines.{HaveGrownBy, lines_in, text_of_lines, with_new_lines};
-ghost use Rattle.nb_texts.specs.Memory.{bytes_to_make, shape_with_room, widened};
+ghost use Rattle.nb_texts.specs.Memory.{bytes_to_make, lines_with, shape_with_room, widened};
 
 use crate::clues::{Clue, found_by};
 use crate::hashing::{Hashing, key_after};
@@ -60,6 +60,7 @@ pub struct Catalog {
 impl Catalog {
     ghost use Rattle.nb_texts.specs.Catalogs.{IsAtRest};
     ghost use Rattle.nb_texts.specs.Memory.{TellsWhetherFits};
+    ghost use Rattle.nb_texts.specs.Stopped.{CanRest};
 
     /// A catalog without lines, whose map has room for so many at first. Under a limit it asks for the
     /// addresses of all lines that it may come to have; memory is taken as they come.
@@ -115,7 +116,13 @@ impl Catalog {
         ensures room { OnOk result (min (length self.new.texts + lines) MOST_KEYS ≤ self.new.room) }
         ensures wide { OnOk result (self.new.room
             ≤ max self.old.room (2 * (length self.old.texts + lines))) }
+        ensures twice { OnOk result (self.old.room < min (length self.old.texts + lines) MOST_KEYS
+            → self.new.room ≡ min (2 * (length self.old.texts + lines)) MOST_KEYS) }
+        ensures enough { min (length self.old.texts + lines) MOST_KEYS ≤ self.old.room
+            → IsOk result × (self.new ≡ self.old) }
         ensures same { self.new.texts ≡ self.old.texts }
+        ensures hashing { self.new.hashing ≡ self.old.hashing }
+        ensures stopped { OnErr result (CanRest self.new) }
         ensures errors { IfErr result IsNoRoom }
         ensures full { result ≡ Err fault.FullOfLines → MOST_KEYS < length self.old.texts }
     {
@@ -140,9 +147,15 @@ impl Catalog {
             (min (length self.new.texts + block.lines) MOST_KEYS ≤ self.new.room)) }
         ensures wide { OnOk result (self.new.room
             ≤ max self.old.room (2 * (length self.old.texts + block.lines))) }
+        ensures wider { IfOk result (λ fits. OnTrue fits (self.old.room < lines_with self.old block
+            → widened (lines_with self.old block) ≤ self.new.room)) }
+        ensures enough { min (length self.old.texts + block.lines) MOST_KEYS ≤ self.old.room
+            → IsOk result × (self.new ≡ self.old) }
         ensures same { self.new.texts ≡ self.old.texts }
+        ensures hashing { self.new.hashing ≡ self.old.hashing }
         ensures fits { IfOk result (TellsWhetherFits limit self.new block) }
         ensures back { IfOk result (λ fits. OnFalse fits (self.new ≡ self.old)) }
+        ensures stopped { OnErr result (CanRest self.new) }
         ensures errors { IfErr result IsNoRoom }
         ensures full { result ≡ Err fault.FullOfLines → MOST_KEYS < length self.old.texts }
     {
@@ -168,9 +181,15 @@ impl Catalog {
             (min (length self.new.texts + block.lines) MOST_KEYS ≤ self.new.room)) }
         ensures wide { OnOk result (self.new.room
             ≤ max self.old.room (2 * (length self.old.texts + block.lines))) }
+        ensures wider { IfOk result (λ fits. OnTrue fits (self.old.room < lines_with self.old block
+            → widened (lines_with self.old block) ≤ self.new.room)) }
+        ensures enough { min (length self.old.texts + block.lines) MOST_KEYS ≤ self.old.room
+            → IsOk result × (self.new ≡ self.old) }
         ensures same { self.new.texts ≡ self.old.texts }
+        ensures hashing { self.new.hashing ≡ self.old.hashing }
         ensures fits { IfOk result (TellsWhetherFits (Some limit) self.new block) }
         ensures back { IfOk result (λ fits. OnFalse fits (self.new ≡ self.old)) }
+        ensures stopped { OnErr result (CanRest self.new) }
         ensures errors { IfErr result IsNoRoom }
         ensures full { result ≡ Err fault.FullOfLines → MOST_KEYS < length self.old.texts }
     {
@@ -202,12 +221,15 @@ impl Catalog {
 
     /// Makes the map anew, with so much room.
     fn renew_for(&mut self, alloc: Global, room: usize) -> Result<(), ProgramFault>
-        requires rest { IsAtRest self.old }
+        requires stopped { CanRest self.old }
         requires most { room ≤ MOST_KEYS }
         ensures rest { OnOk result (IsAtRest self.new) }
         ensures room { OnOk result (self.new.room ≡ room) }
         ensures same { self.new.texts ≡ self.old.texts }
+        ensures hashing { self.new.hashing ≡ self.old.hashing }
         ensures shape { OnOk result (self.new.handle.map.chain.shape ≡ shape_with_room room) }
+        ensures stopped { OnErr result (CanRest self.new) }
+        ensures refused { OnErr result (self.new.room ≡ self.old.room) }
         ensures errors { IfErr result IsNoRoom }
         ensures full { result ≡ Err fault.FullOfLines → room < length self.old.texts }
     {
@@ -216,11 +238,27 @@ impl Catalog {
         Ok(())
     }
 
+    /// Brings the lines to rest where a call was refused: the map is made anew, with as much room. Where
+    /// that is refused, too, this can be tried again.
+    pub fn rest(&mut self, alloc: Global) -> Result<(), ProgramFault>
+        requires stopped { CanRest self.old }
+        ensures rest { OnOk result (IsAtRest self.new) }
+        ensures stopped { OnErr result (CanRest self.new) }
+        ensures room { self.new.room ≡ self.old.room }
+        ensures same { self.new.texts ≡ self.old.texts }
+        ensures hashing { self.new.hashing ≡ self.old.hashing }
+        ensures errors { IfErr result IsNoRoom }
+        ensures full { result ≡ Err fault.FullOfLines → self.old.room < length self.old.texts }
+    {
+        let room = self.room;
+        self.renew_for(alloc, room)
+    }
+
     /// Enters the lines of a block, in their order, and answers their places. Several workers hash
     /// them, and look them up; then one enters those that weren't found. For each line that isn't
     /// there yet the map needs room: it is full only where, with all of them, there are more lines
     /// than it has room for. The lines that were there stay also where it is refused, and so do the
-    /// map and all its seats.
+    /// map and all its seats; [`rest`](Catalog::rest) brings it to rest then.
     pub fn enter<R: Threads + Sync + Wait>(
         &mut self,
         rt: &R,
@@ -237,7 +275,9 @@ impl Catalog {
         ensures map { self.new.handle.map ≡ self.old.handle.map }
         ensures whole { IsWhole self.new.handle }
         ensures room { self.new.room ≡ self.old.room }
+        ensures hashing { self.new.hashing ≡ self.old.hashing }
         ensures grown { HaveGrownBy (lines_in block.now) self.old.texts self.new.texts }
+        ensures stopped { CanRest self.new }
         ensures errors { IfErr result IsNoRoom }
         ensures full { result ≡ Err fault.FullOfLines
             → self.old.room < length (with_new_lines self.old.texts (lines_in block.now)) }
@@ -287,7 +327,7 @@ fn shape_for(room: usize) -> Shape
 fn room_within(left: usize, entries: usize, needed: usize) -> Option<usize>
     requires { needed ≤ MOST_KEYS }
     ensures { MatchOption result (left < bytes_to_make (widened needed) entries)
-        (λ room. (needed ≤ room) × (room ≤ min (2 * needed) MOST_KEYS)
+        (λ room. (widened needed ≤ room) × (room ≤ min (2 * needed) MOST_KEYS)
         × (bytes_to_make room entries ≤ left)) }
 {
     let twice = (needed * 2).min(MOST_KEYS);
@@ -315,14 +355,10 @@ fn can_make(left: usize, entries: usize, room: usize) -> bool
 
 /// Makes a map anew.
 fn renew(alloc: Global, handle: &mut Handle, shape: Shape) -> Result<(), ProgramFault>
-    requires logs { HaveOneLog handle.old }
     requires whole { IsWhole handle.old }
-    ensures logs { OnOk result (HaveOneLog handle.new) }
-    ensures whole { OnOk result (IsWhole handle.new) }
-    ensures same { OnOk result (held handle.new.seat ≡ held handle.old.seat) }
-    ensures claims { OnOk result (HaveClaimed handle.new) }
-    ensures shape { OnOk result (handle.new.map.chain.shape ≡ shape) }
-    ensures full { result ≡ Err fault.FullOfLines → IsTooSmallFor shape (held handle.old.seat) }
+    ensures renewed { OnOk result (HasRenewed shape handle.old handle.new) }
+    ensures kept { OnErr result (IsKept handle.old handle.new) }
+    ensures full { result ≡ Err fault.FullOfLines → HasTooMany shape handle.old }
     ensures errors { IfErr result IsNoRoom }
 {
     match handle.renew(alloc, shape) {
@@ -335,7 +371,9 @@ fn renew(alloc: Global, handle: &mut Handle, shape: Shape) -> Result<(), Program
 
 /// How many readers look up the lines of so many bytes. One alone does no good: whoever enters the
 /// lines finds them as fast.
-fn readers_for(bytes: usize, workers: usize) -> usize {
+fn readers_for(bytes: usize, workers: usize) -> usize
+    ensures { result ≤ min workers MOST_READERS }
+{
     match workers.min(bytes / WORTH).min(MOST_READERS) {
         0 | 1 => 0,
         readers => readers,
@@ -346,6 +384,7 @@ fn readers_for(bytes: usize, workers: usize) -> usize {
 fn parted(alloc: Global, handle: &mut Handle, count: usize) -> Result<Vec<Handle>, OutOfMemory>
     ensures same { IsSameMap handle.old handle.new × (handle.new.seat ≡ handle.old.seat) }
     ensures parted { IfOk result (λ readers. ArePartedFrom handle.old handle.new readers.items) }
+    ensures few { IfOk result (λ readers. length readers.items ≤ count) }
     ensures refused { OnErr result (handle.new ≡ handle.old) }
 {
     let mut readers = Vec::with_capacity(alloc, count)?;
@@ -369,6 +408,8 @@ fn gather(alloc: Global, handle: &mut Handle, readers: Vec<Handle>) -> Result<()
         (handle.old.seat ∷ handle.old.reserve ++ all_seats readers.items)
         (seats_of handle.new) size) }
     ensures whole { IsWhole handle.new }
+    ensures refused { OnErr result ((handle.new.seat ≡ handle.old.seat)
+        × (handle.new.reserve ≡ handle.old.reserve ++ all_seats readers.items)) }
 {
     let _seats = handle.shape().seats();
     let Ok(()) = handle.join_all(readers) else {
@@ -384,6 +425,7 @@ fn settled(alloc: Global, handle: &mut Handle) -> Result<(), OutOfMemory>
     ensures settled { OnOk result ((size : ℕ) × HaveSettled handle.old.map (seats_of handle.old)
         (seats_of handle.new) size) }
     ensures whole { IsWhole handle.new }
+    ensures refused { OnErr result (handle.new ≡ handle.old) }
 {
     match handle.settle(alloc) {
         Ok(_size) => Ok(()),
@@ -408,11 +450,14 @@ fn enter_found<R: Threads + Sync + Wait>(
         handle.old.seat handle.new.seat texts.old texts.new (lines_in block.now)) }
     ensures full { result ≡ Err fault.FullOfLines → HasNoRoomFor handle.old.map.chain.shape
         (key_for hashing) handle.old.seat handle.new.seat texts.old (lines_in block.now) }
+    ensures index { HasKeptIndex (key_for hashing) handle.old.seat handle.new.seat texts.old
+        texts.new }
     ensures grown { HaveGrownBy (lines_in block.now) texts.old texts.new }
     ensures places { IfOk result (λ places. map (slice_get texts.new) places.items
         ≡ map Some (lines_in block.now)) }
     ensures errors { IfErr result IsNoRoom }
 {
+    handle.known();
     let clues = found_by(rt, alloc, texts, hashing, block, readers.as_mut_slice())?;
     enter_lines(rt, alloc, texts, handle, hashing, block, clues.as_slice())
 }
@@ -434,6 +479,8 @@ fn enter_lines<R: Wait>(
         handle.old.seat handle.new.seat texts.old texts.new (lines_in block.now)) }
     ensures full { result ≡ Err fault.FullOfLines → HasNoRoomFor handle.old.map.chain.shape
         (key_for hashing) handle.old.seat handle.new.seat texts.old (lines_in block.now) }
+    ensures index { HasKeptIndex (key_for hashing) handle.old.seat handle.new.seat texts.old
+        texts.new }
     ensures grown { HaveGrownBy (lines_in block.now) texts.old texts.new }
     ensures places { IfOk result (λ places. map (slice_get texts.new) places.items
         ≡ map Some (lines_in block.now)) }
@@ -466,6 +513,8 @@ fn enter_by<R: Wait>(
         handle.old.seat handle.new.seat texts.old texts.new (line.now ∷ [])) }
     ensures full { result ≡ Err fault.FullOfLines → HasNoRoomFor handle.old.map.chain.shape
         (key_for hashing) handle.old.seat handle.new.seat texts.old (line.now ∷ []) }
+    ensures index { HasKeptIndex (key_for hashing) handle.old.seat handle.new.seat texts.old
+        texts.new }
     ensures grown { HaveGrownBy (line.now ∷ []) texts.old texts.new }
     ensures placed { IfOk result (λ place. slice_get texts.new place ≡ Some line.now) }
     ensures errors { IfErr result IsNoRoom }
@@ -492,6 +541,8 @@ fn enter_line<R: Wait>(
         handle.old.seat handle.new.seat texts.old texts.new (line.now ∷ [])) }
     ensures full { result ≡ Err fault.FullOfLines → HasNoRoomFor handle.old.map.chain.shape
         (key_for hashing) handle.old.seat handle.new.seat texts.old (line.now ∷ []) }
+    ensures index { HasKeptIndex (key_for hashing) handle.old.seat handle.new.seat texts.old
+        texts.new }
     ensures grown { HaveGrownBy (line.now ∷ []) texts.old texts.new }
     ensures placed { IfOk result (λ place. slice_get texts.new place ≡ Some line.now) }
     ensures errors { IfErr result IsNoRoom }
@@ -500,9 +551,10 @@ fn enter_line<R: Wait>(
     let place = texts.len();
     let number = number_of(place)?;
     for tries in 0..u64::MAX {
-        match put(rt, handle, key_after(hash, tries), number)? {
+        let key = key_after(hash, tries);
+        match put(rt, handle, key, number)? {
             None => {
-                texts.push(line)?;
+                push_at(rt, texts, handle, key, line)?;
                 return Ok(place);
             }
             Some(found) => {
@@ -514,6 +566,29 @@ fn enter_line<R: Wait>(
         }
     }
     Err(ProgramFault::FullOfLines)
+}
+
+/// Puts a line behind the texts, whose number was put at this key. If memory for it is refused, the
+/// number is taken out again.
+fn push_at<R: Wait>(
+    rt: &R,
+    texts: &mut Texts,
+    handle: &mut Handle,
+    key: Key,
+    line: &[u8],
+) -> Result<(), OutOfMemory>
+    ensures rest { KeepsRest handle.old handle.new }
+    ensures put { OnOk result (texts.new ≡ texts.old ++ line.now ∷ []) }
+    ensures same { OnOk result (handle.new ≡ handle.old) }
+    ensures kept { OnErr result (texts.new ≡ texts.old) }
+    ensures taken { OnErr result ((number : Option ℕ)
+        × HasFound (remove_of key) handle.old.seat handle.new.seat number) }
+{
+    let pushed = texts.push(line);
+    if pushed.is_err() {
+        let _number = handle.remove(rt, key);
+    }
+    pushed
 }
 
 /// Puts a number at a key that has none, and answers what was there.

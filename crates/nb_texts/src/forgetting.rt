@@ -82,6 +82,8 @@ impl LineTally {
         ensures lines { IfOk result (λ forgotten. AreLines forgotten.tally.catalog.texts) }
         ensures room { IfOk result (λ forgotten.
             forgotten.tally.catalog.room ≡ min self.catalog.room MOST_KEYS) }
+        ensures hashing { IfOk result (λ forgotten.
+            forgotten.tally.catalog.hashing ≡ plan.hashing) }
         ensures half { IfOk result (λ forgotten.
             2 * length forgotten.tally.catalog.texts ≤ length self.catalog.texts) }
         ensures cut { IfOk result (λ forgotten. IsMiddle self.counts.items forgotten.cut) }

@@ -1,10 +1,12 @@
 //! How often each line comes.
 ghost use Rattle.std.specs.Bool.{OnFalse, OnTrue};
-ghost use Rattle.std.specs.Prelude.{◌≡◌, ◌+◌, ◌*◌, ◌^◌, ◌<◌, ◌≤◌, ◌++◌, ◌==◌, ◌⊎◌, ℕ, Contains, List, [], IfErr, IfOk, IsOkUnless, OnErr, OnOk, count_by, length, max, min, slice_index};
+ghost use Rattle.std.specs.Prelude.{◌≡◌, ◌+◌, ◌*◌, ◌^◌, ◌<◌, ◌≤◌, ◌++◌, ◌==◌, ◌⊎◌, ℕ, Contains, List, [], IfErr, IfOk, IsOk, IsOkUnless, OnErr, OnOk, count_by, length, max, min, slice_index};
 ghost use Rattle.nb_core.specs.declared.shapes.TheConstants.{MOST_KEYS};
 ghost use Rattle.nb_lines.specs.declared.faults.ProgramFault.TheVariants as fault;
+ghost use Rattle.nb_map.specs.Handles.{IsWhole};
 ghost use Rattle.nb_texts.specs.Catalogs.{IsNoRoom};
 ghost use Rattle.nb_texts.specs.Lines.{HaveGrownBy, lines_in, with_new_lines};
+ghost use Rattle.nb_texts.specs.Memory.{lines_with, widened};
 ghost use Rattle.nb_texts.specs.Tallies.{ComesTooOften, IsTally};
 
 use crate::catalog::Catalog;
@@ -88,7 +90,13 @@ impl LineTally {
             (min (length self.new.catalog.texts + block.lines) MOST_KEYS ≤ self.new.catalog.room)) }
         ensures wide { OnOk result (self.new.catalog.room
             ≤ max self.old.catalog.room (2 * (length self.old.catalog.texts + block.lines))) }
+        ensures wider { IfOk result (λ fits. OnTrue fits
+            (self.old.catalog.room < lines_with self.old.catalog block
+            → widened (lines_with self.old.catalog block) ≤ self.new.catalog.room)) }
+        ensures enough { min (length self.old.catalog.texts + block.lines) MOST_KEYS
+            ≤ self.old.catalog.room → IsOk result × (self.new.catalog ≡ self.old.catalog) }
         ensures texts { self.new.catalog.texts ≡ self.old.catalog.texts }
+        ensures hashing { self.new.catalog.hashing ≡ self.old.catalog.hashing }
         ensures counts { self.new.counts ≡ self.old.counts }
         ensures fits { IfOk result (TellsWhetherFits limit self.new.catalog block) }
         ensures back { IfOk result (λ fits. OnFalse fits (self.new.catalog ≡ self.old.catalog)) }
@@ -112,8 +120,10 @@ impl LineTally {
         ensures lines { IfOk result (λ lines. lines ≡ length (lines_in block.now)) }
         ensures texts { OnOk result (self.new.catalog.texts
             ≡ with_new_lines self.old.catalog.texts (lines_in block.now)) }
-        ensures map { OnOk result (self.new.catalog.handle.map ≡ self.old.catalog.handle.map) }
+        ensures map { self.new.catalog.handle.map ≡ self.old.catalog.handle.map }
+        ensures whole { IsWhole self.new.catalog.handle }
         ensures room { self.new.catalog.room ≡ self.old.catalog.room }
+        ensures hashing { self.new.catalog.hashing ≡ self.old.catalog.hashing }
         ensures tally { OnOk result ((lines : List (List ℕ))
             → IsTally lines self.old.catalog.texts self.old.counts.items
             → IsTally (lines ++ lines_in block.now) self.new.catalog.texts

@@ -10,6 +10,7 @@ use Rattle.nb_texts.specs.Lines.{lines_in}
 use Rattle.nb_texts.specs.declared.clues.Clue.TheVariants.{Place}
 use Rattle.nb_texts.proofs.ClueLemmas.{clue-now, entering-begun, entering-done, entering-grown, entering-kept, entering-more, entering-stopped, some-left}
 use Rattle.nb_texts.proofs.LinesLemmas.{grown-none}
+use Rattle.nb_texts.proofs.StoppedLemmas.{kept-entered, kept-none, kept-then}
 use Rattle.nb_texts.proofs.catalog.enter_lines.Goals as goal
 
 pub loop-clue-init : goal.loop-clue-init
@@ -143,3 +144,34 @@ returns-in_err-push-clause-grown g c =
     (drop now.clue-index c.args.clues.now) now.places.items now.invariant.so_far
     c.split_line.result.0.now (lines_in c.split_line.result.1.now) c.enter_by.new.texts
     c.split_line.ensures.line c.enter_by.ensures.grown
+
+pub returns-in_err-places-clause-index : goal.returns-in_err-places-clause-index
+returns-in_err-places-clause-index g c =
+    kept-none (key_for c.args.hashing) c.args.handle.now.map c.args.handle.now.seat c.args.texts.now
+    c.known.ensures.own
+
+pub returns-clause-index : goal.returns-clause-index
+returns-clause-index g c =
+    let now = c.loop-clue in
+    kept-entered (key_for c.args.hashing) c.args.handle.now.map.chain.shape c.args.handle.now.seat
+    now.handle.seat c.args.texts.now now.texts now.invariant.so_far.done now.invariant.so_far.entered
+
+pub returns-in_err-place-clause-index : goal.returns-in_err-place-clause-index
+returns-in_err-place-clause-index g c =
+    let now = c.loop-clue in
+    let keys = key_for c.args.hashing in
+    kept-then keys c.args.handle.now.seat now.handle.seat c.enter_by.new.handle.seat c.args.texts.now
+    now.texts c.enter_by.new.texts
+    (kept-entered keys c.args.handle.now.map.chain.shape c.args.handle.now.seat now.handle.seat
+    c.args.texts.now now.texts now.invariant.so_far.done now.invariant.so_far.entered)
+    c.enter_by.ensures.index
+
+pub returns-in_err-push-clause-index : goal.returns-in_err-push-clause-index
+returns-in_err-push-clause-index g c =
+    let now = c.loop-clue in
+    let keys = key_for c.args.hashing in
+    kept-then keys c.args.handle.now.seat now.handle.seat c.enter_by.new.handle.seat c.args.texts.now
+    now.texts c.enter_by.new.texts
+    (kept-entered keys c.args.handle.now.map.chain.shape c.args.handle.now.seat now.handle.seat
+    c.args.texts.now now.texts now.invariant.so_far.done now.invariant.so_far.entered)
+    c.enter_by.ensures.index

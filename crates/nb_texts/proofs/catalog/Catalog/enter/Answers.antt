@@ -1,17 +1,19 @@
 use Rattle.std.proofs.Common.{◌≡◌, ◌∙◌, All, refl, subst, sym}
 use Rattle.std.proofs.lemmas.Result.{on_ok_weaker}
 use Rattle.nb_core.specs.Plans.{HasRoomFor}
-use Rattle.nb_map.specs.Handles.{seats_of}
+use Rattle.nb_map.specs.Handles.{HandleOf, seats_of}
 use Rattle.nb_map.specs.Maps.{MapOf}
 use Rattle.nb_map.specs.OneSeat.{held}
 use Rattle.nb_texts.proofs.ClueLemmas.{parted-whole, readers-of}
 use Rattle.nb_texts.proofs.LinesLemmas.{grown-none}
 use Rattle.nb_texts.proofs.RestLemmas.{entered-gathered, gathered-claims, gathered-from, stopped-gathered}
+use Rattle.nb_texts.proofs.StoppedLemmas.{gathered-indexed, gathered_in, joined-indexed, rests, rests-with, settled-indexed}
 use Rattle.nb_texts.specs.Claims.{ClaimsOnly}
 use Rattle.nb_texts.specs.Entering.{HasEntered, HasNoRoomFor}
 use Rattle.nb_texts.specs.Hashes.{key_for}
 use Rattle.nb_texts.specs.Lines.{lines_in}
 use Rattle.nb_texts.specs.Memory.{shape_with_room}
+use Rattle.nb_texts.specs.Stopped.{CanRest}
 use Rattle.nb_texts.proofs.catalog.Catalog.enter.Goals as goal
 
 pub gather-requires : goal.gather-requires
@@ -127,3 +129,51 @@ returns-clause-full g c = λ is.
 pub returns-in_err-readers-clause-grown : goal.returns-in_err-readers-clause-grown
 returns-in_err-readers-clause-grown g c =
     grown-none (lines_in c.args.block.now) c.args.self.now.texts c.args.self.now.texts refl
+
+pub returns-in_err-readers-clause-stopped : goal.returns-in_err-readers-clause-stopped
+returns-in_err-readers-clause-stopped g c =
+    let before = c.args.self.now in
+    subst (λ (handle : HandleOf). CanRest (record before { handle = handle }))
+    (sym c.in_err-readers.ensures.refused) (rests before c.requires.rest)
+
+pub returns-in_err-gather-clause-stopped : goal.returns-in_err-gather-clause-stopped
+returns-in_err-gather-clause-stopped g c =
+    let before = c.args.self.now in
+    let at_rest = c.requires.rest in
+    let parted = c.parted.new.handle in
+    let after = c.enter_found-places.new.handle in
+    let last = c.gather.new.handle in
+    let readers' = c.enter_found-places.new.readers.items in
+    let keys = key_for before.hashing in
+    let texts' = c.enter_found-places.new.texts in
+    let kept = c.enter_found-places.ensures.rest in
+    let back = c.in_err-gather.ensures.refused in
+    let same : last.map ≡ before.handle.map
+    = c.in_err-gather.ensures.map ∙ kept.map ∙ c.parted.ensures.same.0 in
+    rests-with before texts' last (rests before at_rest) same c.in_err-gather.ensures.whole
+    (joined-indexed keys texts' (gathered_in after readers') last back.0 back.1
+    (gathered-indexed keys before.texts texts' before.handle parted after
+    c.in_ok-readers.readers.items readers' at_rest.logs at_rest.index c.parted.ensures.same
+    c.in_ok-readers.ensures.parted c.enter_found-places.ensures.looked kept
+    c.enter_found-places.ensures.index))
+
+pub returns-clause-stopped : goal.returns-clause-stopped
+returns-clause-stopped g c =
+    let before = c.args.self.now in
+    let at_rest = c.requires.rest in
+    let parted = c.parted.new.handle in
+    let after = c.enter_found-places.new.handle in
+    let last = c.gather.new.handle in
+    let readers' = c.enter_found-places.new.readers.items in
+    let keys = key_for before.hashing in
+    let texts' = c.enter_found-places.new.texts in
+    let kept = c.enter_found-places.ensures.rest in
+    let settled = c.in_ok-gather.ensures.settled in
+    let same : last.map ≡ before.handle.map
+    = c.in_ok-gather.ensures.map ∙ kept.map ∙ c.parted.ensures.same.0 in
+    rests-with before texts' last (rests before at_rest) same c.in_ok-gather.ensures.whole
+    (settled-indexed keys texts' after.map (gathered_in after readers') last settled.0 settled.1
+    (gathered-indexed keys before.texts texts' before.handle parted after
+    c.in_ok-readers.readers.items readers' at_rest.logs at_rest.index c.parted.ensures.same
+    c.in_ok-readers.ensures.parted c.enter_found-places.ensures.looked kept
+    c.enter_found-places.ensures.index))
