@@ -15,6 +15,8 @@ mod memory;
 mod plan;
 mod source;
 mod tally;
+#[cfg(test)]
+mod tests;
 mod texts;
 
 pub use catalog::{CATALOG_EACH, Catalog};
