@@ -10,6 +10,7 @@ use Rattle.nb_cache.specs.Evicting.{HasEvicted}
 use Rattle.nb_cache.specs.Pages.{IsSamePage}
 use Rattle.nb_cache.specs.declared.budget.Budget.{Budget}
 use Rattle.nb_cache.specs.declared.calls.Counts.{Counts}
+use Rattle.nb_cache.specs.declared.evicting.Evicted.{Evicted}
 use Rattle.nb_cache.specs.declared.pages.Page.{Page}
 use Rattle.nb_cache.specs.declared.renewing.Freed.TheVariants.{Nothing, Old, Stale}
 use Rattle.nb_cache.specs.declared.renewing.Freed.{Freed}
@@ -25,6 +26,10 @@ IsMadeAnew before after renewed =
 -- the fault is that the map has more keys than slots, or a page wasn't shown
 abbrev pub IsNotRenewed : ProgramFault → Type 0
 IsNotRenewed told = (told ≡ fault.FullOfKeys) ⊎ (told ≡ fault.Unshown)
+
+-- the fault is that memory is refused, or a page wasn't shown
+abbrev pub IsNotListed : ProgramFault → Type 0
+IsNotListed told = (told ≡ fault.OutOfMemory) ⊎ (told ≡ fault.Unshown)
 
 -- Stale texts are freed where with so many keys the store has too many texts, if memory isn't refused.
 abbrev pub HasFreedStale :
@@ -47,6 +52,27 @@ HasFreedOld budget stored coming before after (Old evicted renewed) =
     (budget.texts < stored + coming)
     × (between : HandleOf) × HasEvicted (budget.texts / 2) before between evicted
     × IsMadeAnew between after renewed
+
+-- Stale texts were to be freed, where the store has too many, which failed: the cache goes on as it is.
+pub record HasNotFreedStale (stored keys : ℕ) (before after : HandleOf) (told : ProgramFault) :
+    Type 0 where
+  pub many : 2 * keys + FEW < stored
+  pub kept : IsKept before after
+  pub why : IsNotRenewed told
+
+-- The oldest went, as many as had to for half of the budget, and the cache is as it was else.
+pub record HasOnlyEvicted (budget : Budget) (before after : HandleOf) : Type 0 where
+  pub between : HandleOf
+  pub evicted : Evicted
+  pub old : HasEvicted (budget.texts / 2) before between evicted
+  pub kept : IsKept between after
+
+-- Room was to be made where there is none, which failed: all texts are there, or the oldest went.
+pub record HasNotFreedOld (budget : Budget) (stored coming : ℕ) (before after : HandleOf)
+    (told : ProgramFault) : Type 0 where
+  pub tight : budget.texts < stored + coming
+  pub left : IsKept before after ⊎ HasOnlyEvicted budget before after
+  pub why : (told ≡ fault.OutOfMemory) ⊎ IsNotRenewed told
 
 -- ---- what is gone
 

@@ -3,8 +3,10 @@ ghost use Rattle.std.specs.Prelude.{◌≡◌, ◌-◌, ◌<◌, ◌≤◌, ◌^
 ghost use Rattle.nb_map.specs.Entries.{HaveListed};
 ghost use Rattle.nb_long.specs.Handles.{IsWhole, KeepsRest, seats_of};
 ghost use Rattle.nb_long.specs.Renewing.{IsKept};
+ghost use Rattle.nb_lines.specs.declared.faults.ProgramFault.TheVariants as fault;
 ghost use Rattle.nb_cache.specs.Ages.{counted_from};
 ghost use Rattle.nb_cache.specs.Evicting.{GoesIfOld, HasEvicted, HasTakenOut, IsCached, entry_of_text, old_texts};
+ghost use Rattle.nb_cache.specs.Renewing.{IsNotListed};
 
 use crate::budget::Age;
 use crate::pages::{Page, page_of};
@@ -51,6 +53,7 @@ pub(crate) fn evict<R: Wait>(
     ensures whole { IsWhole cache.new }
     ensures evicted { IfOk result (HasEvicted most cache.old cache.new) }
     ensures kept { IfErr result (λ _. IsKept cache.old cache.new) }
+    ensures errors { IfErr result IsNotListed }
 {
     let entries = entries_of(alloc, cache)?;
     let all = texts_of(alloc, cache, entries.as_slice())?;
@@ -72,6 +75,7 @@ fn entries_of(alloc: Global, cache: &mut Handle<Page>) -> Result<Vec<(Key, Num)>
     ensures listed { IfOk result (λ entries. HaveListed (seats_of cache.old) (seats_of cache.new)
         entries.items) }
     ensures kept { IsKept cache.old cache.new }
+    ensures error { IfErr result (λ told. told ≡ fault.OutOfMemory) }
 {
     match cache.entries(alloc) {
         Ok(entries) => Ok(entries),
@@ -88,6 +92,7 @@ fn texts_of(
 ) -> Result<Vec<CachedText>, ProgramFault>
     ensures all { IfOk result (λ texts. map entry_of_text texts.items ≡ entries.now) }
     ensures cached { IfOk result (λ texts. All (IsCached cache.now.map.store) texts.items) }
+    ensures errors { IfErr result IsNotListed }
 {
     let mut texts = Vec::with_capacity(alloc, entries.len())?;
     for (place, number) in entries {
@@ -101,6 +106,7 @@ fn texts_of(
 fn text_at(cache: &Handle<Page>, place: Key, number: Num) -> Result<CachedText, ProgramFault>
     ensures entry { IfOk result (λ text. entry_of_text text ≡ (place, number)) }
     ensures cached { IfOk result (IsCached cache.now.map.store) }
+    ensures error { IfErr result (λ told. told ≡ fault.Unshown) }
 {
     let page = page_of(cache, number)?;
     let age = page.value().age();

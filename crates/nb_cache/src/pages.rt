@@ -1,6 +1,7 @@
 //! Pages: what a put stores.
-ghost use Rattle.std.specs.Prelude.{◌≡◌, IfOk, MatchOption, None, Some};
+ghost use Rattle.std.specs.Prelude.{◌≡◌, IfErr, IfOk, MatchOption, None, Some};
 ghost use Rattle.boxcar.specs.Table.{Shows};
+ghost use Rattle.nb_lines.specs.declared.faults.ProgramFault.TheVariants as fault;
 ghost use Rattle.nb_cache.specs.Ages.{counted};
 ghost use Rattle.nb_cache.specs.Pages.{text_for};
 
@@ -76,7 +77,8 @@ impl Page {
 
 /// The page that is stored under a number, which the map gave.
 pub(crate) fn page_of(cache: &Handle<Page>, number: Num) -> Result<Found<'_, Page>, ProgramFault>
-    ensures { IfOk result (λ page. Shows cache.now.map.store page × (page.index ≡ number)) }
+    ensures shown { IfOk result (λ page. Shows cache.now.map.store page × (page.index ≡ number)) }
+    ensures error { IfErr result (λ told. told ≡ fault.Unshown) }
 {
     cache.show(number).ok_or(ProgramFault::Unshown)
 }

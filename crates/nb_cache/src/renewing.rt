@@ -1,9 +1,9 @@
 //! When the cache is made anew, and how.
-ghost use Rattle.std.specs.Prelude.{◌≡◌, ◌*◌, ◌+◌, ◌<◌, ◌↔◌, Err, IfErr, IfOk, IsTrue, MatchOption};
+ghost use Rattle.std.specs.Prelude.{◌≡◌, ◌*◌, ◌+◌, ◌<◌, ◌↔◌, Err, IfErr, IfOk, IsTrue, MatchOption, OnErr};
 ghost use Rattle.nb_lines.specs.declared.faults.ProgramFault.TheVariants as fault;
 ghost use Rattle.nb_long.specs.Handles.{IsWhole};
 ghost use Rattle.nb_long.specs.Renewing.{HasTooMany, IsKept};
-ghost use Rattle.nb_cache.specs.Renewing.{HasFreedStale, HasFreedOld, IsMadeAnew, IsNotRenewed, beyond, gone_with};
+ghost use Rattle.nb_cache.specs.Renewing.{HasFreedStale, HasFreedOld, HasNotFreedOld, HasNotFreedStale, IsMadeAnew, IsNotRenewed, beyond, gone_with};
 ghost use Rattle.nb_cache.specs.declared.renewing.TheConstants.{FEW};
 
 use crate::budget::Budget;
@@ -87,6 +87,12 @@ pub(crate) fn renew_in_time<R: Wait>(
         cache.new freed)) }
     ensures gone { IfOk result (λ freed. run.new
         ≡ record run.old { gone = gone_with counts freed run.old.gone }) }
+    ensures failed { IfErr result (λ told. MatchOption run.old.plan.budget
+        (HasNotFreedStale (beyond counts.puts run.old.gone.texts) counts.keys cache.old cache.new
+        told)
+        (λ budget. HasNotFreedOld budget (beyond counts.stored run.old.gone.count) coming cache.old
+        cache.new told)) }
+    ensures same { OnErr result (run.new ≡ run.old) }
 {
     let gone = run.gone;
     let freed = match run.plan.budget {
@@ -123,6 +129,7 @@ fn free_stale<R: Wait>(
     requires whole { IsWhole cache.old }
     ensures whole { IsWhole cache.new }
     ensures freed { IfOk result (HasFreedStale stored keys cache.old cache.new) }
+    ensures failed { IfErr result (HasNotFreedStale stored keys cache.old cache.new) }
 {
     if !must_renew(stored, keys) {
         return Ok(Freed::Nothing);
@@ -147,6 +154,7 @@ fn make_room<R: Wait>(
     requires whole { IsWhole cache.old }
     ensures whole { IsWhole cache.new }
     ensures room { IfOk result (HasFreedOld budget stored coming cache.old cache.new) }
+    ensures failed { IfErr result (HasNotFreedOld budget stored coming cache.old cache.new) }
 {
     if budget.has_room(stored, coming) {
         return Ok(Freed::Nothing);

@@ -1,6 +1,6 @@
 -- What a renewer's token holds, from step to step.
 use Rattle.std.proofs.Common.{◌≡◌, ◌≢◌, ◌∙◌, ◌+◌, ◌++◌, ◌<◌, ◌≤◌, ◌⊎◌, ℕ, zero, suc, List, [], ◌∷◌, All, Some, ap, inl, inr, length, length-append, refl, slice_get, subst, sym, arith}
-use Rattle.std.specs.Prelude.{Err, IfErr, IfOk, None, Ok, OnOk, Option, Result, ⊤, unwrap_or}
+use Rattle.std.specs.Prelude.{Err, IfErr, IfOk, None, Ok, OnErr, OnOk, Option, Result, ⊤, unwrap_or}
 use Rattle.std.proofs.lemmas.Option.{slice_get_within}
 use Rattle.atomic_table.specs.Table.{Me, rest}
 use Rattle.nb_core.specs.Log.{Entry, log_of}
@@ -19,7 +19,7 @@ use Rattle.nb_map.specs.declared.faults.RenewFault.{RenewFault}
 use Rattle.nb_lasting.proofs.Refused.{renewed-all}
 use Rattle.nb_lasting.proofs.Renewed.{all-from, at-all}
 use Rattle.nb_lasting.specs.Gathered.{AreSingle, IsPartedAnew, IsSingle}
-use Rattle.nb_lasting.specs.Renewal.{AreHeld, AreRenewed, CanComeHome, CanDealAnew, CanDealBelow, KnowOneLog, HoldsBelow, HoldsStill, IsIdleToken, blanks, down}
+use Rattle.nb_lasting.specs.Renewal.{AreHeld, AreRenewed, CanComeHome, CanDealAnew, CanDealBelow, HasBegunBy, HasBegunIn, KnowOneLog, HoldsBelow, HoldsStill, IsIdleToken, blanks, down}
 use Rattle.nb_lasting.specs.Shared.{Has, HasBegunAnew, HasDealt, HasGiven, HasTaken, Holds, IsCurrent, IsKnownOrHasSlots, IsLane, IsOfGuest, FitsLanes, KnowsIn, all_knew, as_guest, given, known_in, known_of, log_in, map_in, rest_outs, account_in, begun_in, times_out}
 use Rattle.nb_lasting.specs.Lasting.{HasSlots}
 use Rattle.nb_lasting.specs.Visits.{began, gave}
@@ -675,12 +675,14 @@ module _
       (result : Result ⊤ RenewFault) → IsPartedAnew p before after result
       → (length after ≡ p.seats)
       × ((can : CanDealAnew keys (length after) me after)
-      × IfOk result (λ done. can.anew.shared.chain.shape ≡ p))
+      × IfOk result (λ done. can.anew.shared.chain.shape ≡ p)
+      × IfErr result (λ fault. can.anew.shared ≡ me.0.map))
   deals result is =
       let count = anew.0.held.count in (
         count,
         subst (λ n. (can : CanDealAnew keys n me after)
-            × IfOk result (λ done. can.anew.shared.chain.shape ≡ p))
+            × IfOk result (λ done. can.anew.shared.chain.shape ≡ p)
+            × IfErr result (λ fault. can.anew.shared ≡ me.0.map))
             (sym count) (
               record {
                 knew = holds.knew;
@@ -700,6 +702,7 @@ module _
                 room = has-room result keys p me.0.map anew.0.shared room anew.1 anew.2;
               },
               anew.1,
+              anew.2,
             ),
       )
     where
@@ -722,6 +725,19 @@ module _
           settled (still-single p.seats me before some few holds) result
           (single-map p.seats me.0.map me.0.filled me.0.past holds.still.know before some few
           holds.still.held) is
+
+-- where it was refused, the first one that goes home is of the same map
+pub begun-in :
+    (result : Result ⊤ RenewFault) (keys n : ℕ) (me : Me (Option HandleOf) LaneView)
+    (handles : List HandleOf) (can : CanDealAnew keys n me handles) (a b : Account)
+    → IfErr result (λ fault. can.anew.shared ≡ me.0.map) → HasBegunBy handles a b
+    → OnErr result (HasBegunIn me.0.map a b)
+begun-in (Ok done) keys n me handles can a b same begun = tt
+begun-in (Err fault) keys n me handles can a b same begun = record {
+  first = begun.first;
+  map = (can.anew.held.each begun.place begun.first begun.there).0.map ∙ same;
+  account = begun.account;
+}
 
 -- they are all seats of their map
 pub all-of-map :

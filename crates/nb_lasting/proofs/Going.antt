@@ -1,18 +1,21 @@
 -- How a write goes on with all handles.
-use Rattle.std.proofs.Common.{◌≡◌, ◌≢◌, ◌∙◌, ℕ, List, ap, refl, slice_get, subst, sym}
-use Rattle.std.specs.Prelude.{Err, None, Ok, Option, Result}
+use Rattle.std.proofs.Common.{◌≡◌, ◌≢◌, ◌∙◌, ◌<◌, ℕ, List, ap, arith, inl, inr, refl, slice_get, subst, sym}
+use Rattle.std.specs.Prelude.{Err, None, Ok, OnErr, OnOk, Option, Result, ⊤}
 use Rattle.atomic_table.specs.Table.{Me}
 use Rattle.nb_core.specs.declared.calls.Call.{Call}
 use Rattle.nb_core.specs.declared.calls.Reply.{Reply}
 use Rattle.nb_map.specs.Handles.{HandleOf}
 use Rattle.nb_map.specs.declared.faults.PutFault.TheVariants as put_fault
 use Rattle.nb_map.specs.declared.faults.PutFault.{PutFault}
+use Rattle.nb_lasting.proofs.Dealt.{there_is}
+use Rattle.nb_lasting.proofs.Renewed.{all-from}
 use Rattle.nb_lasting.proofs.Written.{same-in, set-at}
 use Rattle.nb_lasting.specs.Gathered.{HasWrittenBy}
 use Rattle.nb_lasting.specs.Holding.{HasTriedOnAs, tried_of}
-use Rattle.nb_lasting.specs.Renewal.{AreAllHome, HoldsBelow}
+use Rattle.nb_lasting.specs.Renewal.{AreAllHome, AreHomeStill, HoldsBelow, IsHomeSeen}
 use Rattle.nb_lasting.specs.Tries.{Again, Anew, Done, HasTriedWithAll, NoRoom, WithAll}
-use Rattle.nb_lasting.specs.Visits.{AreBack, HasGoneRound, HasMadeMapAnew, HasTakenAll, SharedOf, gave, took_all}
+use Rattle.nb_lasting.specs.Visits.{AreBack, AreBackSeen, AreBackStill, HasBegunAgain, HasGoneRound, HasMadeMapAnew, HasTakenAll, SharedOf, gave, took_all}
+use Rattle.nb_lasting.specs.declared.faults.GrowFault.{GrowFault}
 use Rattle.nb_lasting.specs.declared.faults.WriteFault.{WriteFault}
 use Rattle.nb_lasting.specs.declared.shared.Account.{Account}
 use Rattle.nb_lasting.specs.declared.shared.LaneView.{LaneView}
@@ -28,11 +31,53 @@ taken-all of n before me handles many holds account = record {
   account = account;
 }
 
+-- ---- where they are when they are home again, in words of those that were taken
+
+pub back-seen :
+    (lane n : ℕ) (me : Me (Option HandleOf) LaneView) (handles : List HandleOf) (after : Account)
+    → lane < n → HoldsBelow n me handles → IsHomeSeen lane me.0.map me.0.account after
+    → AreBackSeen lane handles me.0.account after
+back-seen lane n me handles after below holds seen =
+    let own = there_is handles lane (omega (arith, below, holds.held.count)) in
+    record {
+      there = own.0;
+      back = seen.back;
+      own = own.1;
+      same = seen.map ∙ sym (holds.held.each lane own.0 own.1).0.map;
+      number = seen.number;
+      account = seen.account;
+    }
+
+pub home-still :
+    (lane n : ℕ) (me : Me (Option HandleOf) LaneView) (handles : List HandleOf) (after : Account)
+    → lane < n → HoldsBelow n me handles → AreHomeStill lane me.0.map me.0.account after
+    → AreBackStill lane handles me.0.account after
+home-still lane n me handles after below holds (inl same) = inl same
+home-still lane n me handles after below holds (inr (inl seen)) =
+    inr (inl (back-seen lane n me handles after below holds seen))
+home-still lane n me handles after below holds (inr (inr begun)) =
+    inr (inr (record {
+      first = begun.first;
+      same = all-from (λ (h : HandleOf). h.map ≡ begun.first.map) handles
+          (λ i h at. (holds.held.each i h at).0.map ∙ sym begun.map);
+      account = begun.account;
+    }))
+
+pub back-by :
+    (result : Result ⊤ GrowFault) (of : SharedOf) (lane n : ℕ)
+    (me : Me (Option HandleOf) LaneView) (handles : List HandleOf) (after : Account) → lane < n
+    → HoldsBelow n me handles → OnOk result (HasMadeMapAnew of me.0.account after)
+    → OnErr result (AreHomeStill lane me.0.map me.0.account after)
+    → AreBack of lane handles me.0.account after
+back-by (Ok done) of lane n me handles after below holds made still = inr made
+back-by (Err fault) of lane n me handles after below holds made still =
+    inl (home-still lane n me handles after below holds still)
+
 module _ (call : Call) (lane : ℕ) (of : SharedOf) (before : Account) where
   -- it is refused
   pub goes-refused :
       (after : Account) (result : Result (Option Reply) WriteFault) (fault : WriteFault)
-      → result ≡ Err fault → HasGoneRound of AreBack before after
+      → result ≡ Err fault → HasGoneRound of (AreBackStill lane) before after
       → HasTriedOnAs call lane of before after result
   goes-refused after result fault is round =
       subst (HasTriedOnAs call lane of before after) (sym is) (NoRoom round)

@@ -2,10 +2,12 @@
 use Rattle.std.proofs.Common.{◌≡◌, ◌∙◌, ◌+◌, ◌++◌, ◌<◌, ◌≤◌, ◌∷◌, ℕ, zero, suc, List, [], Some, ap, arith, inl, inr, length, length-append, refl, slice_get, subst, sym}
 use Rattle.std.proofs.lemmas.List.{append_assoc}
 use Rattle.std.proofs.lemmas.Option.{slice_get_within}
+use Rattle.nb_core.specs.declared.events.Event.{Event}
 use Rattle.nb_map.specs.Handles.{HandleOf}
+use Rattle.nb_map.specs.Maps.{MapOf}
 use Rattle.nb_lasting.proofs.Dealt.{snoc_last}
 use Rattle.nb_lasting.proofs.Sharing.{Same, decided}
-use Rattle.nb_lasting.specs.Renewal.{AreAllHome, HasComeHome}
+use Rattle.nb_lasting.specs.Renewal.{AreAllHome, AreStill, HasComeHome, IsHomeSeen}
 use Rattle.nb_lasting.specs.Visits.{gave}
 use Rattle.nb_lasting.specs.declared.shared.Account.{Account}
 
@@ -15,6 +17,15 @@ append_at :
 append_at [] ys i x at = absurd (omega (arith, slice_get_within [] i x at))
 append_at (z ∷ xs) ys zero x at = at
 append_at (z ∷ xs) ys (suc i) x at = append_at xs ys i x at
+
+-- the guest's own one is home, and of the map still
+pub home-seen :
+    (m : MapOf) (filled past : List Event) (n : ℕ) (knew : ℕ → List Event)
+    (handles : List HandleOf) (own : ℕ) (a b : Account) → AreStill m filled past n knew handles
+    → AreAllHome own handles a b → IsHomeSeen own m a b
+home-seen m filled past n knew handles own a b still home =
+    let one = (still.held.each own home.0 home.1).0 in
+    record { back = home.0; map = one.map; number = one.number; account = home.2 }
 
 -- these are left, from the first on, of those that were to go home
 pub record AreLeft (own : ℕ) (all left : List HandleOf) (before after : Account) : Type 0 where

@@ -137,15 +137,19 @@ pub looked-more :
     (before set then after : GuestOf) (found : Occupancy) → set.number ≡ before.number
     → set.account ≡ before.account → HasLookedBy set then.account found
     → IsTrue found.is_last × (2 * found.looked < 3 * found.taken) → then.of ≡ before.of
-    → HasGoneRound then.of AreBack then.account after.account → HasLookedInTime before after
-looked-more before set then after found number account look crowded of round = record {
+    → then.number ≡ before.number
+    → HasGoneRound then.of (AreBack then.of then.number) then.account after.account
+    → HasLookedInTime before after
+looked-more before set then after found number account look crowded of same round = record {
   found = found;
   then = then.account;
   look = looked-by before set then.account found number account look;
   only = inr (
     crowded.0,
     crowded.1,
-    subst (λ (of : SharedOf). HasGoneRound of AreBack then.account after.account) of round,
+    subst (λ n. HasGoneRound before.of (AreBack before.of n) then.account after.account) same
+        (subst (λ (of : SharedOf). HasGoneRound of (AreBack of then.number) then.account
+        after.account) of round),
   );
 }
 

@@ -22,8 +22,8 @@ use Rattle.nb_lasting.specs.declared.shared.Account.{Account}
 -- A guest: the map that it is of, its number there, and the log that it knows: the calls of all
 -- guests until its last call. It keeps account of each handle that it took, as that was then, and
 -- of its own one each time that it gave it back, the newest first; and so of the first one that it
--- gave back each time that it made the map anew. So many more of its writes that find no number
--- come before the next one that looks whether the map is crowded.
+-- gave back each time that it made the map anew, or was refused that. So many more of its writes
+-- that find no number come before the next one that looks whether the map is crowded.
 pub record GuestOf : Type 0 where
   pub of : SharedOf
   pub number : ℕ
@@ -96,7 +96,8 @@ pub record HasLookedInTime (before after : GuestOf) : Type 0 where
   pub look : HasLookedBy before then found
   pub only :
       (after.account ≡ then)
-      ⊎ (IsTrue found.is_last × (2 * found.looked < 3 * found.taken) × HasGoneRound before.of AreBack then after.account)
+      ⊎ (IsTrue found.is_last × (2 * found.looked < 3 * found.taken)
+      × HasGoneRound before.of (AreBack before.of before.number) then after.account)
 
 -- how many such writes come before the next look, where one that is due is made first
 abbrev pub calls_left : ℕ → ℕ

@@ -1,6 +1,6 @@
 -- What a renewer holds: the handles of the lanes below a number, and of all lanes at last.
 use Rattle.std.specs.FinMap as numbers
-use Rattle.std.specs.Prelude.{◌≡◌, ◌≢◌, ◌*◌, ◌<◌, ◌≤◌, ◌++◌, ℕ, zero, suc, All, List, [], ◌∷◌, Option, Some, None, IfErr, IfOk, Result, ⊤, length, max, slice_get}
+use Rattle.std.specs.Prelude.{◌≡◌, ◌≢◌, ◌*◌, ◌<◌, ◌≤◌, ◌++◌, ◌⊎◌, ℕ, zero, suc, All, List, [], ◌∷◌, Option, Some, None, IfErr, IfOk, Result, ⊤, length, max, slice_get}
 use Rattle.atomic_table.specs.Table.{Me}
 use Rattle.nb_core.specs.Log.{Entry, Numbers, log_of, map_of_log}
 use Rattle.nb_core.specs.Meaning.{IsCrowded}
@@ -195,3 +195,21 @@ pub record HasBegunAs (p : Plan) (handles : List HandleOf) (before after : Accou
   pub shape : first.map.chain.shape ≡ p
   pub claimed : HasClaimedForItsKeys first
   pub same : (one : KnowOneLog handles) → map_of_log (log first.seat) ≡ map_of_log one.whole
+
+-- the first one that went home is of this map
+pub record HasBegunIn (m : MapOf) (before after : Account) : Type 0 where
+  pub first : HandleOf
+  pub map : first.map ≡ m
+  pub account : after ≡ began first before
+
+-- This lane's handle went home by its guest, and is of this map.
+pub record IsHomeSeen (own : ℕ) (m : MapOf) (before after : Account) : Type 0 where
+  pub back : HandleOf
+  pub map : back.map ≡ m
+  pub number : back.seat.chain.number ≡ own
+  pub account : after ≡ gave back before
+
+-- All handles went home, of this map still.
+abbrev pub AreHomeStill : (own : ℕ) → MapOf → (before after : Account) → Type 0
+AreHomeStill own m before after =
+    (after ≡ before) ⊎ IsHomeSeen own m before after ⊎ HasBegunIn m before after

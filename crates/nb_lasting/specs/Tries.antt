@@ -8,7 +8,7 @@ use Rattle.nb_map.specs.Progress.{Tries}
 use Rattle.nb_map.specs.Promises.{HasWritten, replied_or_refused}
 use Rattle.nb_map.specs.declared.faults.PutFault.TheVariants as put_fault
 use Rattle.nb_map.specs.declared.faults.PutFault.{PutFault}
-use Rattle.nb_lasting.specs.Visits.{AreBack, HasGoneRound, HasMadeMapAnew, HasTakenAll, HasVisited, SharedOf, gave}
+use Rattle.nb_lasting.specs.Visits.{AreBackStill, HasGoneRound, HasMadeMapAnew, HasTakenAll, HasVisited, SharedOf, gave}
 use Rattle.nb_lasting.specs.declared.shared.Account.{Account}
 
 -- a write by a handle with 2^32 - 1 tries, of which this came
@@ -73,5 +73,5 @@ pub data HasTriedOn (call : Call) (lane : ℕ) (of : SharedOf) :
       → HasTriedAlone call lane new then outcome → HasTriedOn call lane of outcome then after made
       → HasTriedOn call lane of (Err put_fault.Full) before after made
   NoRoom :
-      {before after : Account} → HasGoneRound of AreBack before after
+      {before after : Account} → HasGoneRound of (AreBackStill lane) before after
       → HasTriedOn call lane of (Err put_fault.Full) before after []

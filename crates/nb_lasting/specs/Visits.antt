@@ -1,8 +1,8 @@
 -- How often a token takes handles, and what is done by them. It keeps account of each that it took,
 -- as that was then; of its guest's own one each time that the guest gave it back; and of the first
--- one that it gave back each time that it made the map anew.
+-- one that it gave back each time that it made the map anew, or was refused that.
 use Rattle.std.specs.FinMap as numbers
-use Rattle.std.specs.Prelude.{◌≡◌, ◌*◌, ◌∷◌, ◌⊎◌, [], ℕ, List, Some, length, map, max, slice_get}
+use Rattle.std.specs.Prelude.{◌≡◌, ◌*◌, ◌∷◌, ◌⊎◌, [], ℕ, All, List, Some, length, map, max, slice_get}
 use Rattle.atomic_table.specs.Seated.{TableId}
 use Rattle.nb_core.specs.Log.{Numbers, map_of_log}
 use Rattle.nb_map.specs.Bulk.{put_entry}
@@ -38,7 +38,7 @@ took handle account = record account { taken = handle ∷ account.taken }
 abbrev pub gave : HandleOf → Account → Account
 gave handle account = record account { returned = handle ∷ account.returned }
 
--- the same after it gave this one back first, of a map that it had made anew
+-- the same after it gave this one back first, of a map that it had made anew, or was to
 abbrev pub began : HandleOf → Account → Account
 began handle account = record account { begun = handle ∷ account.begun }
 
@@ -90,23 +90,40 @@ pub record HasMadeMapAnew (of : SharedOf) (before after : Account) : Type 0 wher
       first.map.chain.shape ≡ shape_made_for (max (2 * keys_known first) (least_anew of)) of.guests
   pub claimed : HasClaimedForItsKeys first
 
--- All handles that it took are home, its own one by its guest, which may have seen more.
-abbrev pub AreBackSeen : (before after : Account) → Type 0
-AreBackSeen before after = (handle : HandleOf) × (after ≡ gave handle before)
+-- All handles that it took are home, its own one by its guest, which may have seen more. That is
+-- of the same map.
+pub record AreBackSeen (lane : ℕ) (handles : List HandleOf) (before after : Account) : Type 0 where
+  pub there : HandleOf
+  pub back : HandleOf
+  pub own : slice_get handles lane ≡ Some there
+  pub same : back.map ≡ there.map
+  pub number : back.seat.chain.number ≡ lane
+  pub account : after ≡ gave back before
 
--- The same; or they are as they were; or first came one of a map that was made anew, or was to be.
-abbrev pub AreBack : (before after : Account) → Type 0
-AreBack before after =
-    (after ≡ before) ⊎ AreBackSeen before after
-    ⊎ ((first : HandleOf) × (after ≡ began first before))
+-- The map was to be made anew, which was refused: what it gave back first is of the same map.
+pub record HasBegunAgain (handles : List HandleOf) (before after : Account) : Type 0 where
+  pub first : HandleOf
+  pub same : All (λ handle. handle.map ≡ first.map) handles
+  pub account : after ≡ began first before
+
+-- They are home, of the same map: as they were; or as one of these two says.
+abbrev pub AreBackStill : (lane : ℕ) → List HandleOf → (before after : Account) → Type 0
+AreBackStill lane handles before after =
+    (after ≡ before) ⊎ AreBackSeen lane handles before after ⊎ HasBegunAgain handles before after
+
+-- They are home so, or the map was made anew.
+abbrev pub AreBack : SharedOf → (lane : ℕ) → List HandleOf → (before after : Account) → Type 0
+AreBack of lane handles before after =
+    AreBackStill lane handles before after ⊎ HasMadeMapAnew of before after
 
 -- It took all handles once, and they are home so; or it did nothing.
 abbrev pub HasGoneRound :
-    SharedOf → (Back : (before after : Account) → Type 0) → (before after : Account) → Type 0
+    SharedOf → (Back : List HandleOf → (before after : Account) → Type 0)
+    → (before after : Account) → Type 0
 HasGoneRound of Back before after =
     (after ≡ before)
     ⊎ ((handles : List HandleOf) × (then : Account) × HasTakenAll of handles before then
-    × Back then after)
+    × Back handles then after)
 
 -- It took all handles once, and counted the map by them: their seats settled, and know the one log
 -- of all calls then, which leaves so many keys. They are home so.

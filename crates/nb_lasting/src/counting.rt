@@ -28,7 +28,7 @@ pub(crate) fn count_through<R: Wait>(
     ensures table { token.new.table_id ≡ token.old.table_id }
     ensures idle { IsIdleGuest lane token.new.me }
     ensures called { HasCalledIn lane token.old.me.0 token.new.me.0 [] }
-    ensures round { HasGoneRound (hall_of hall.now) AreBackSeen token.old.me.0.account
+    ensures round { HasGoneRound (hall_of hall.now) (AreBackSeen lane) token.old.me.0.account
         token.new.me.0.account }
     ensures counted { IfOk result (HasCountedByAll lane (hall_of hall.now) token.old.me.0.account
         token.new.me.0.account) }

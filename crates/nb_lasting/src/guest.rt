@@ -254,7 +254,8 @@ impl Guest {
     pub fn size<R: Wait>(&mut self, rt: &R) -> Result<u64, OutOfMemory>
         ensures of { self.new.of ≡ self.old.of }
         ensures called { GuestHasCalled self.old self.new [] }
-        ensures round { HasGoneRound self.old.of AreBackSeen self.old.account self.new.account }
+        ensures round { HasGoneRound self.old.of (AreBackSeen self.old.number) self.old.account
+            self.new.account }
         ensures counted { IfOk result
             (HasCountedByAll self.old.number self.old.of self.old.account self.new.account) }
         ensures size { IfOk result (λ size.
@@ -301,7 +302,8 @@ impl Guest {
     /// there were so many renewals.
     fn renew<R: Wait>(&mut self, rt: &R, renewals: u64) -> Result<(), GrowFault>
         ensures called { GuestHasCalled self.old self.new [] }
-        ensures round { HasGoneRound self.old.of AreBack self.old.account self.new.account }
+        ensures round { HasGoneRound self.old.of (AreBack self.old.of self.old.number) self.old.account
+            self.new.account }
         ensures left { self.new.left ≡ self.old.left }
     {
         renew_through(rt, &self.hall, &mut self.token, self.lane, renewals)

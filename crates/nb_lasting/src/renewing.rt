@@ -8,9 +8,9 @@ ghost use Rattle.nb_map.specs.Handles.{HandleOf};
 ghost use Rattle.nb_lasting.specs.Gathered.{HaveTooMany};
 ghost use Rattle.nb_lasting.specs.Holding.{HasCalledIn, HasTriedOnAs, HasTriedIn, IsIdleGuest, tried_of};
 ghost use Rattle.nb_lasting.specs.Lasting.{HasSlots, IsNewKey};
-ghost use Rattle.nb_lasting.specs.Renewal.{AreAllHome, CanComeHome, CanDealAnew, CanDealBelow, HasBegunAs, HasBegunBy, HasComeHome, HasRoomAnew, HasTakenOne, HoldsBelow, KnowOneLog, HoldsStill, IsFullAt, IsIdleToken, IsSameGuest};
+ghost use Rattle.nb_lasting.specs.Renewal.{AreAllHome, AreHomeStill, CanComeHome, CanDealAnew, CanDealBelow, HasBegunAs, HasBegunBy, HasBegunIn, HasComeHome, HasRoomAnew, HasTakenOne, HoldsBelow, KnowOneLog, HoldsStill, IsFullAt, IsIdleToken, IsSameGuest};
 ghost use Rattle.nb_lasting.specs.Shared.{FitsLanes};
-ghost use Rattle.nb_lasting.specs.Visits.{AreBack, HasGoneRound, HasMadeMapAnew, began, took_all};
+ghost use Rattle.nb_lasting.specs.Visits.{AreBack, HasGoneRound, HasMadeMapAnew, took_all};
 ghost use Rattle.nb_lasting.specs.declared.faults.GrowFault.TheVariants as fault;
 ghost use Rattle.nb_lasting.specs.inside.Guests.{hall_of};
 
@@ -226,7 +226,8 @@ fn renew_all<R: Wait>(
     requires settled { KnowOneLog handles.items }
     ensures table { token.new.table_id ≡ token.old.table_id }
     ensures guest { IsSameGuest token.old.me.0 token.new.me.0 }
-    ensures first { (first : HandleOf) × (token.new.me.0.account ≡ began first token.old.me.0.account) }
+    ensures again { OnErr result (HasBegunIn token.old.me.0.map token.old.me.0.account
+        token.new.me.0.account) }
     ensures begun { OnOk result (HasBegunAs shape handles.items token.old.me.0.account
         token.new.me.0.account) }
     ensures idle { IsIdleToken token.new.me }
@@ -258,10 +259,11 @@ pub(crate) fn renew_counted<R: Wait>(
     requires holds { HoldsStill hall.now.table.shared.key.seats token.old.me handles.items }
     ensures table { token.new.table_id ≡ token.old.table_id }
     ensures idle { IsIdleGuest own token.new.me }
-    ensures back { AreBack token.old.me.0.account token.new.me.0.account }
     ensures called { HasCalledIn own token.old.me.0 token.new.me.0 [] }
     ensures anew { OnOk result (HasRoomAnew hall.now.least own token.old.me.0 token.new.me.0) }
     ensures made { OnOk result (HasMadeMapAnew (hall_of hall.now) token.old.me.0.account token.new.me.0.account) }
+    ensures still { OnErr result (AreHomeStill own token.old.me.0.map token.old.me.0.account
+        token.new.me.0.account) }
     ensures kept { result ≡ Err fault.OutOfMemory → token.new.me.0.seen ≡ token.old.me.0.seen }
     ensures full { result ≡ Err fault.Full
         → IsFullAt own handles.items (map_of_log (log_of token.new.me.0.seen)) }
@@ -300,7 +302,8 @@ pub(crate) fn renew_through<R: Wait>(
     requires replayed { IsReplayed (log_of token.old.me.0.seen) }
     ensures table { token.new.table_id ≡ token.old.table_id }
     ensures idle { IsIdleGuest own token.new.me }
-    ensures round { HasGoneRound (hall_of hall.now) AreBack token.old.me.0.account token.new.me.0.account }
+    ensures round { HasGoneRound (hall_of hall.now) (AreBack (hall_of hall.now) own)
+        token.old.me.0.account token.new.me.0.account }
     ensures called { HasCalledIn own token.old.me.0 token.new.me.0 [] }
 {
     let row = &hall.table.shared;

@@ -65,16 +65,9 @@ fn print<W: Write + Drop>(alloc: Global, writer: W, counts: &[Count]) -> Result<
         Appends (W.contents writer) (W.contents after) (text_of_counts counts.now)) }
     ensures errors { IfErr result (λ told. (told ≡ fault.OutOfMemory) ⊎ (told ≡ fault.Write)) }
 {
-    let Ok(mut buffered) = BufWriter::new(alloc, writer) else {
-        return Err(ProgramFault::OutOfMemory);
-    };
-    if print_to(&mut buffered, counts).is_err() {
-        return Err(ProgramFault::Write);
-    }
-    match buffered.into_inner() {
-        Ok(writer) => Ok(writer),
-        Err(_) => Err(ProgramFault::Write),
-    }
+    let mut buffered = BufWriter::new(alloc, writer)?;
+    print_to(&mut buffered, counts).map_err(|_| ProgramFault::Write)?;
+    buffered.into_inner().map_err(|_| ProgramFault::Write)
 }
 
 /// The same, to a writer that may hold back what it is given.
@@ -137,16 +130,9 @@ pub(crate) fn print_rows<W: Write + Drop>(
         Appends (W.contents writer) (W.contents after) (text_of_rows missed rows.now)) }
     ensures errors { IfErr result (λ told. (told ≡ fault.OutOfMemory) ⊎ (told ≡ fault.Write)) }
 {
-    let Ok(mut buffered) = BufWriter::new(alloc, writer) else {
-        return Err(ProgramFault::OutOfMemory);
-    };
-    if print_rows_to(&mut buffered, rows, missed).is_err() {
-        return Err(ProgramFault::Write);
-    }
-    match buffered.into_inner() {
-        Ok(writer) => Ok(writer),
-        Err(_) => Err(ProgramFault::Write),
-    }
+    let mut buffered = BufWriter::new(alloc, writer)?;
+    print_rows_to(&mut buffered, rows, missed).map_err(|_| ProgramFault::Write)?;
+    buffered.into_inner().map_err(|_| ProgramFault::Write)
 }
 
 /// The same, to a writer that may hold back what it is given.

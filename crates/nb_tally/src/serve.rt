@@ -1,9 +1,12 @@
 //! The program: its words, what it reads and what it prints.
-ghost use Rattle.std.specs.Prelude.{◌≡◌, ◌⊎◌, ℕ, IfErr, IfOk, IfSome, IsTrue, None, Ok, Some, false, length};
+ghost use Rattle.std.specs.Prelude.{◌≡◌, ◌<◌, ◌≤◌, ◌^◌, ◌⊎◌, ℕ, Err, IfErr, IfOk, IfSome, IsTrue, None, Ok, Some, false, length};
+ghost use Rattle.nb_core.specs.declared.shapes.TheConstants.{MOST_KEYS};
 ghost use Rattle.nb_lines.specs.declared.faults.ProgramFault.TheVariants as fault;
+ghost use Rattle.nb_texts.specs.Catalogs.{IsNoRoom};
 ghost use Rattle.nb_texts.specs.Forgetting.{AreBounds};
-ghost use Rattle.nb_texts.specs.Lines.{lines_in};
+ghost use Rattle.nb_texts.specs.Lines.{distinct, lines_in};
 ghost use Rattle.nb_texts.specs.Memory.{KeepsTo};
+ghost use Rattle.nb_texts.specs.Sources.{IsReadFault};
 ghost use Rattle.nb_texts.specs.Tallies.{IsTally};
 ghost use Rattle.nb_tally.specs.Fields.{counted_of};
 ghost use Rattle.nb_tally.specs.Forgotten.{FitsNever, HasTallied, TellsFirst};
@@ -93,6 +96,12 @@ where
     ensures full { IfOk result (λ done. done.1.taken.is_whole ≡ false
         → IfSome plan.limit (λ limit. IfSome (I.remaining reader.old) (λ input.
         MayNotFit options.column limit input done.1.taken.lines done.1.tally.catalog))) }
+    ensures errors { IfErr result (λ told.
+        IsReadFault told ⊎ IsNoRoom told ⊎ (told ≡ fault.TooOften) ⊎ (told ≡ fault.Write)) }
+    ensures too_many { result ≡ Err fault.FullOfLines → IfSome (I.remaining reader.old) (λ input.
+        MOST_KEYS < length (distinct (counted_of options.column (lines_in input)))) }
+    ensures too_often { result ≡ Err fault.TooOften → IfSome (I.remaining reader.old) (λ input.
+        2 ^ 64 ≤ length (lines_in input)) }
 {
     let counted = tally_lines(rt, rt.alloc(), plan, options.column, reader);
     plan.progress.end(rt);
@@ -132,6 +141,12 @@ where
     ensures never { IfOk result (λ done. done.1.taken.is_whole ≡ false
         → IfSome plan.limit (λ limit. IfSome (I.remaining reader.old) (λ input.
         FitsNever options.column limit input done.1.taken.lines done.1.rough.tally.catalog))) }
+    ensures errors { IfErr result (λ told.
+        IsReadFault told ⊎ IsNoRoom told ⊎ (told ≡ fault.TooOften) ⊎ (told ≡ fault.Write)) }
+    ensures too_many { result ≡ Err fault.FullOfLines → IfSome (I.remaining reader.old) (λ input.
+        MOST_KEYS < length (distinct (counted_of options.column (lines_in input)))) }
+    ensures too_often { result ≡ Err fault.TooOften → IfSome (I.remaining reader.old) (λ input.
+        2 ^ 64 ≤ length (lines_in input)) }
 {
     let counted = tally_roughly(rt, rt.alloc(), plan, options.column, reader);
     plan.progress.end(rt);

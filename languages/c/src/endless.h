@@ -30,10 +30,6 @@
 #define UNLIKELY(x) __builtin_expect(!!(x), 0)
 #define COLD __attribute__((cold, noinline))
 
-/* How many slots are a line of the cache, by their exponent; which bits of a key tell its place there. */
-#define LINE_BITS 2
-#define IN_LINE UINT64_C(3)
-
 /* Place 0 is of the one part of a map that isn't divided, and the others are of the parts of one that is. */
 enum { PARTS = 1 << PART_BITS, PLACES = 1 + PARTS };
 
@@ -193,22 +189,24 @@ static inline uint64_t unmix(const mixing *by, uint64_t key)
     return (__builtin_bswap64(key) * by->inverse[0]) ^ by->with[0];
 }
 
-/* In a divided map that mixes nothing a key belongs to the part whose number is in the bits above its lowest ones, turned by a hash of
-   those above: so keys that follow each other go round all parts, four at a time, and those with a pattern do. There it stands as this
-   number: its part comes first, and the other bits after it, so that keys that follow each other have slots that do. The two numbers
-   that are no keys stay as they are. */
-static inline uint64_t turn(uint64_t key) { return (~key >> (LINE_BITS + PART_BITS)) * SAMVOLIP_MIX_FACTOR >> (64 - PART_BITS); }
+/* Two numbers change places: the first that is no key, and the one that would have its place when the parts come first. */
+#define FIRST_NO_KEY (SAMVOLIP_KEY_MAX + 1)
+static inline uint64_t swapped(uint64_t key)
+{
+    const uint64_t other = FIRST_NO_KEY << PART_BITS | (PARTS - 1);
+    return UNLIKELY(key == FIRST_NO_KEY || key == other) ? key ^ FIRST_NO_KEY ^ other : key;
+}
 
+/* In a divided map that mixes nothing a key belongs to the part that its lowest bits tell, and stands there as the number that its other
+   bits tell, with its part before that. So keys in a row go round all parts, and have slots in a row in each; and threads that take the
+   next ones by turns, one of 2, 4 or 8 each, share no line of the cache. The two numbers that are no keys stay as they are. */
 static inline uint64_t part_first(uint64_t key)
 {
-    return (key >> LINE_BITS ^ turn(key)) << (64 - PART_BITS) | (key >> PART_BITS & ~IN_LINE) | (key & IN_LINE);
+    key = swapped(key);
+    return key >> PART_BITS | key << (64 - PART_BITS);
 }
 
-static inline uint64_t part_last(uint64_t inner)
-{
-    uint64_t high = (inner & ~IN_LINE) << PART_BITS;
-    return high | ((inner >> (64 - PART_BITS) ^ turn(high)) & (PARTS - 1)) << LINE_BITS | (inner & IN_LINE);
-}
+static inline uint64_t part_last(uint64_t inner) { return swapped(inner << PART_BITS | inner >> (64 - PART_BITS)); }
 
 /* The key that stands in a core for this one, of a map that is divided or isn't. It may be none: two numbers are no keys. */
 static inline uint64_t inner_once(const samvolip_map *map, bool divided, uint64_t key)

@@ -8,7 +8,8 @@ use Rattle.nb_lasting.specs.declared.shared.LaneView.{LaneView}
 use Rattle.nb_lasting.specs.inside.Guests.{hall_of}
 use Rattle.nb_lasting.proofs.Counted.{called-home, can-come-home, if-ok, size-home, still-by}
 use Rattle.nb_lasting.proofs.Dealt.{held-still, still-single}
-use Rattle.nb_lasting.proofs.Going.{taken-all}
+use Rattle.nb_lasting.proofs.Going.{back-seen, taken-all}
+use Rattle.nb_lasting.proofs.Homes.{home-seen}
 use Rattle.nb_lasting.proofs.Renewed.{mapped-at}
 use Rattle.nb_lasting.proofs.counting.count_through.Goals as goal
 
@@ -108,6 +109,19 @@ returns-in_err-handles-clause-round g c =
 
 pub returns-in-Ok-clause-round : goal.returns-in-Ok-clause-round
 returns-in-Ok-clause-round g c =
+    let n = c.slot_count-seats.result in
+    let me = c.gather_all.new.token.me in
+    let before = c.in_ok-handles.handles.items in
+    let after = c.counted-handles.result.0.items in
+    let holds = held-still n me before c.in_ok-handles.ensures.holds in
+    let some : 1 ≤ c.slot_count-seats.result =
+    omega (arith, c.slot_count-seats.ensures, c.args.hall.now.slots, c.args.hall.now.some) in
+    let few : c.slot_count-seats.result ≤ 256 =
+    omega (arith, c.slot_count-seats.ensures, c.args.hall.now.slots, c.args.hall.now.few) in
+    let below : c.args.lane < c.slot_count-seats.result =
+    omega (arith, c.slot_count-seats.ensures, c.args.hall.now.slots, c.requires.lane) in
+    let still = (still-by n me before after some few holds c.counted-handles.result.1
+    c.counted-handles.ensures).0 in
     inr (
       c.in_ok-handles.handles.items,
       c.gather_all.new.token.me.0.account,
@@ -115,11 +129,27 @@ returns-in-Ok-clause-round g c =
           c.gather_all.new.token.me c.in_ok-handles.handles.items
           (c.slot_count-seats.ensures ∙ c.args.hall.now.slots) c.in_ok-handles.ensures.holds
           c.in_ok-handles.ensures.taken,
-      (c.all_home.ensures.home.0, c.all_home.ensures.home.2),
+      back-seen c.args.lane n me before c.all_home.new.token.me.0.account below
+          c.in_ok-handles.ensures.holds
+          (home-seen me.0.map me.0.filled me.0.past n holds.knew after c.args.lane me.0.account
+          c.all_home.new.token.me.0.account still c.all_home.ensures.home),
     )
 
 pub returns-in-Err-clause-round : goal.returns-in-Err-clause-round
 returns-in-Err-clause-round g c =
+    let n = c.slot_count-seats.result in
+    let me = c.gather_all.new.token.me in
+    let before = c.in_ok-handles.handles.items in
+    let after = c.counted-handles.result.0.items in
+    let holds = held-still n me before c.in_ok-handles.ensures.holds in
+    let some : 1 ≤ c.slot_count-seats.result =
+    omega (arith, c.slot_count-seats.ensures, c.args.hall.now.slots, c.args.hall.now.some) in
+    let few : c.slot_count-seats.result ≤ 256 =
+    omega (arith, c.slot_count-seats.ensures, c.args.hall.now.slots, c.args.hall.now.few) in
+    let below : c.args.lane < c.slot_count-seats.result =
+    omega (arith, c.slot_count-seats.ensures, c.args.hall.now.slots, c.requires.lane) in
+    let still = (still-by n me before after some few holds c.counted-handles.result.1
+    c.counted-handles.ensures).0 in
     inr (
       c.in_ok-handles.handles.items,
       c.gather_all.new.token.me.0.account,
@@ -127,7 +157,10 @@ returns-in-Err-clause-round g c =
           c.gather_all.new.token.me c.in_ok-handles.handles.items
           (c.slot_count-seats.ensures ∙ c.args.hall.now.slots) c.in_ok-handles.ensures.holds
           c.in_ok-handles.ensures.taken,
-      (c.all_home.ensures.home.0, c.all_home.ensures.home.2),
+      back-seen c.args.lane n me before c.all_home.new.token.me.0.account below
+          c.in_ok-handles.ensures.holds
+          (home-seen me.0.map me.0.filled me.0.past n holds.knew after c.args.lane me.0.account
+          c.all_home.new.token.me.0.account still c.all_home.ensures.home),
     )
 
 pub returns-in-Ok-clause-counted : goal.returns-in-Ok-clause-counted

@@ -1,6 +1,6 @@
-use Rattle.std.proofs.Common.{◌∙◌, ◌≤◌, ap, subst, sym}
+use Rattle.std.proofs.Common.{◌∙◌, ◌≤◌, ap, length, subst, sym}
 use Rattle.nb_map.specs.Maps.{MapOf}
-use Rattle.nb_lasting.proofs.Dealt.{all-of-map, deals, done_ok, still-single}
+use Rattle.nb_lasting.proofs.Dealt.{all-of-map, begun-in, deals, done_ok, still-single}
 use Rattle.nb_lasting.proofs.Renewed.{begun-as}
 use Rattle.nb_lasting.proofs.renewing.renew_all.Goals as goal
 
@@ -48,9 +48,18 @@ pub returns-clause-full : goal.returns-clause-full
 returns-clause-full g c full =
     let is = c.parted_anew-handles.ensures in (is.joined, is.seats, is.full full)
 
-pub returns-clause-first : goal.returns-clause-first
-returns-clause-first g c =
-    let begun = c.deal_renewed.ensures.begun in (begun.first, begun.account)
+pub returns-clause-again : goal.returns-clause-again
+returns-clause-again g c =
+    let seats = c.requires.shape in
+    let done = deals c.args.shape c.args.token.now.me c.args.handles.items
+    c.parted_anew-handles.result.0.items (subst (λ n. 1 ≤ n) (sym seats) c.args.hall.now.some)
+    (subst (λ n. n ≤ 256) (sym seats) c.args.hall.now.few) c.requires.seated c.requires.holds
+    c.requires.settled c.args.hall.now.table.shared.key.keys c.requires.room
+    c.parted_anew-handles.result.1 c.parted_anew-handles.ensures in
+    begun-in c.parted_anew-handles.result.1 c.args.hall.now.table.shared.key.keys
+    (length c.parted_anew-handles.result.0.items) c.args.token.now.me
+    c.parted_anew-handles.result.0.items done.1.0 c.args.token.now.me.0.account
+    c.deal_renewed.new.token.me.0.account done.1.2 c.deal_renewed.ensures.begun
 
 pub returns-clause-begun : goal.returns-clause-begun
 returns-clause-begun g c =

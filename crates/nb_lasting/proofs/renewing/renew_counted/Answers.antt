@@ -4,6 +4,7 @@ use Rattle.nb_lasting.specs.Renewal.{HoldsStill}
 use Rattle.nb_lasting.specs.Lasting.{HasSlots, shape_made_for}
 use Rattle.nb_lasting.proofs.Counted.{called-home, can-come-home, full-home, made-anew, nothing-seen, one-log, room-anew, room-left, still-by, still-holds}
 use Rattle.nb_lasting.proofs.Dealt.{still-dealt, still-single}
+use Rattle.nb_lasting.proofs.Homes.{home-seen}
 use Rattle.nb_lasting.proofs.Sizes.{slots_fewer}
 use Rattle.nb_lasting.specs.inside.Guests.{hall_of}
 use Rattle.nb_lasting.proofs.renewing.renew_counted.Goals as goal
@@ -170,7 +171,7 @@ returns-in-Err g c = record {
     slots = c.renew_all.ensures.idle.slots;
   };
   anew = tt;
-  back = inr (inr c.renew_all.ensures.first);
+  still = inr (inr c.in-Err.ensures.again);
   made = tt;
   called = nothing-seen c.args.own c.args.token.now.me.0 c.renew_all.new.token.me.0
       c.renew_all.ensures.guest.seen c.requires.replayed;
@@ -178,10 +179,13 @@ returns-in-Err g c = record {
   full = λ is. absurd cc;
 }
 
-pub returns-in-Ok-renew_all-clause-back : goal.returns-in-Ok-renew_all-clause-back
-returns-in-Ok-renew_all-clause-back g c =
-    inr (inr c.renew_all.ensures.first)
-
-pub returns-then-size-ge-GREATEST-clause-back : goal.returns-then-size-ge-GREATEST-clause-back
-returns-then-size-ge-GREATEST-clause-back g c =
-    inr (inl (c.all_home.ensures.home.0, c.all_home.ensures.home.2))
+pub returns-then-size-ge-GREATEST-clause-still : goal.returns-then-size-ge-GREATEST-clause-still
+returns-then-size-ge-GREATEST-clause-still g c =
+    let n = c.args.hall.now.table.shared.key.seats in
+    let me = c.args.token.now.me in
+    let before = c.args.handles.items in
+    let after = c.counted-handles.result.0.items in
+    let still = (still-by n me before after c.args.hall.now.some c.args.hall.now.few
+    c.requires.holds c.counted-handles.result.1 c.counted-handles.ensures).0 in
+    inr (inl (home-seen me.0.map me.0.filled me.0.past n c.requires.holds.knew after c.args.own
+    me.0.account c.all_home.new.token.me.0.account still c.all_home.ensures.home))

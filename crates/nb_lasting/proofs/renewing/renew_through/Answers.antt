@@ -1,4 +1,4 @@
-use Rattle.std.proofs.Common.{◌∙◌, ap, inl, inr, subst}
+use Rattle.std.proofs.Common.{◌∙◌, ap, arith, inl, inr, subst}
 use Rattle.std.specs.Prelude.{Option}
 use Rattle.atomic_table.specs.Table.{Me}
 use Rattle.nb_map.specs.Handles.{HandleOf}
@@ -6,7 +6,7 @@ use Rattle.nb_lasting.specs.Renewal.{HoldsStill}
 use Rattle.nb_lasting.specs.declared.shared.LaneView.{LaneView}
 use Rattle.nb_lasting.specs.inside.Guests.{hall_of}
 use Rattle.nb_lasting.proofs.Dealt.{as-held, held-still}
-use Rattle.nb_lasting.proofs.Going.{taken-all}
+use Rattle.nb_lasting.proofs.Going.{back-by, taken-all}
 use Rattle.nb_lasting.proofs.renewing.renew_through.Goals as goal
 
 pub deal_all-requires-clause-holds : goal.deal_all-requires-clause-holds
@@ -30,7 +30,7 @@ returns-then-load-renewals-clause-round g c =
           c.gather_all.new.token.me c.in_ok-handles.handles.items
           (c.slot_count.ensures ∙ c.args.hall.now.slots) c.in_ok-handles.ensures.holds
           c.in_ok-handles.ensures.taken,
-      inl c.deal_all.ensures.account,
+      inl (inl c.deal_all.ensures.account),
     )
 
 pub returns-clause-round : goal.returns-clause-round
@@ -42,7 +42,12 @@ returns-clause-round g c =
           c.gather_all.new.token.me c.in_ok-handles.handles.items
           (c.slot_count.ensures ∙ c.args.hall.now.slots) c.in_ok-handles.ensures.holds
           c.in_ok-handles.ensures.taken,
-      c.renew_counted.ensures.back,
+      back-by c.renew_counted.result (hall_of c.args.hall.now) c.args.own c.slot_count.result
+          c.gather_all.new.token.me c.in_ok-handles.handles.items
+          c.renew_counted.new.token.me.0.account
+          (omega (arith, c.slot_count.ensures, c.args.hall.now.slots, c.requires.own))
+          c.in_ok-handles.ensures.holds c.renew_counted.ensures.made
+          c.renew_counted.ensures.still,
     )
 
 pub returns-in_err-handles-clause-round : goal.returns-in_err-handles-clause-round

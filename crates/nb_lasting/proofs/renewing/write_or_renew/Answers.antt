@@ -13,7 +13,7 @@ use Rattle.nb_lasting.specs.Tries.{NoRoom}
 use Rattle.nb_lasting.specs.declared.shared.LaneView.{LaneView}
 use Rattle.nb_lasting.specs.inside.Guests.{hall_of}
 use Rattle.nb_lasting.proofs.Counted.{called-from}
-use Rattle.nb_lasting.proofs.Going.{goes-anew, goes-refused, goes-with-all, taken-all}
+use Rattle.nb_lasting.proofs.Going.{goes-anew, goes-refused, goes-with-all, home-still, taken-all}
 use Rattle.nb_lasting.proofs.Written.{full-crowded, full-still, is-err, refused-so, tried-so, wrote-home, wrote-since}
 use Rattle.nb_lasting.proofs.renewing.write_or_renew.Goals as goal
 
@@ -126,7 +126,9 @@ returns-in_err-renew_counted-clause-on g c =
       taken-all (hall_of c.args.hall.now) c.slot_count.result old c.gather_all.new.token.me
           c.in-Ok.handles.items (c.slot_count.ensures ∙ c.args.hall.now.slots)
           c.in-Ok.ensures.holds c.in-Ok.ensures.taken,
-      c.renew_counted.ensures.back,
+      home-still c.args.own c.slot_count.result c.gather_all.new.token.me c.in-Ok.handles.items new
+          (omega (arith, c.slot_count.ensures, c.args.hall.now.slots, c.requires.own))
+          c.in-Ok.ensures.holds c.in_err-renew_counted.ensures.still,
     ))
 
 pub returns-then-found_full-clause-on : goal.returns-then-found_full-clause-on

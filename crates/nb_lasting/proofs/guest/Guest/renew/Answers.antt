@@ -21,9 +21,11 @@ returns g c =
           subst (λ (guest : GuestOf). GuestHasCalled guest after []) c.self.view_is
           (called_through (guest_of c.self.inside) after c.self.inside.token.me.0
           c.renew_through.new.token.me.0 [] refl refl refl refl c.renew_through.ensures.called);
-      round = subst (λ (guest : GuestOf). HasGoneRound guest.of AreBack guest.account after.account)
+      round = subst (λ (guest : GuestOf). HasGoneRound guest.of (AreBack guest.of guest.number)
+          guest.account after.account)
           c.self.view_is
-          (subst (λ (hall : Hall). HasGoneRound (hall_of hall) AreBack
+          (subst (λ (hall : Hall). HasGoneRound (hall_of hall)
+          (AreBack (hall_of hall) c.self.inside.lane)
           c.self.inside.token.me.0.account after.account) c.deref.ensures
           c.renew_through.ensures.round);
       left = ap (λ (guest : GuestOf). guest.left) c.self.view_is;

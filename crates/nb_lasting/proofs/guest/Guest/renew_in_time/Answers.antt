@@ -18,6 +18,7 @@ returns-then-should_renew-clause-due g c none =
     (ap (λ (guest : GuestOf). guest.account) c.set_left.ensures) c.look-found.ensures.looked
     (c.should_renew.ensures.0 c.if-should_renew.true)
     (c.look-found.ensures.called.of ∙ ap (λ (guest : GuestOf). guest.of) c.set_left.ensures)
+    (c.look-found.ensures.called.number ∙ ap (λ (guest : GuestOf). guest.number) c.set_left.ensures)
     c.renew.ensures.round
 
 pub returns-else-should_renew-clause-due : goal.returns-else-should_renew-clause-due

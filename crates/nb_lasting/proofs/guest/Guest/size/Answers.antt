@@ -24,8 +24,8 @@ returns-clause-called g c =
 pub returns-clause-round : goal.returns-clause-round
 returns-clause-round g c =
     let new = c.count_through.new.token.me.0.account in
-    subst (λ (guest : GuestOf). HasGoneRound guest.of AreBackSeen guest.account new) c.self.view_is
-    (subst (λ (hall : Hall). HasGoneRound (hall_of hall) AreBackSeen
+    subst (λ (guest : GuestOf). HasGoneRound guest.of (AreBackSeen guest.number) guest.account new) c.self.view_is
+    (subst (λ (hall : Hall). HasGoneRound (hall_of hall) (AreBackSeen c.self.inside.lane)
     c.self.inside.token.me.0.account new) c.deref.ensures c.count_through.ensures.round)
 
 pub returns-clause-counted : goal.returns-clause-counted
