@@ -65,7 +65,7 @@ fn print<W: Write + Drop>(alloc: Global, writer: W, counts: &[Count]) -> Result<
         Appends (W.contents writer) (W.contents after) (text_of_counts counts.now)) }
     ensures errors { IfErr result (λ told. (told ≡ fault.OutOfMemory) ⊎ (told ≡ fault.Write)) }
 {
-    let mut buffered = BufWriter::new(alloc, writer)?;
+    let mut buffered = BufWriter::new(alloc, writer).map_err(|_| ProgramFault::OutOfMemory)?;
     print_to(&mut buffered, counts).map_err(|_| ProgramFault::Write)?;
     buffered.into_inner().map_err(|_| ProgramFault::Write)
 }
@@ -130,7 +130,7 @@ pub(crate) fn print_rows<W: Write + Drop>(
         Appends (W.contents writer) (W.contents after) (text_of_rows missed rows.now)) }
     ensures errors { IfErr result (λ told. (told ≡ fault.OutOfMemory) ⊎ (told ≡ fault.Write)) }
 {
-    let mut buffered = BufWriter::new(alloc, writer)?;
+    let mut buffered = BufWriter::new(alloc, writer).map_err(|_| ProgramFault::OutOfMemory)?;
     print_rows_to(&mut buffered, rows, missed).map_err(|_| ProgramFault::Write)?;
     buffered.into_inner().map_err(|_| ProgramFault::Write)
 }
