@@ -4,7 +4,7 @@ use Rattle.nb_lines.specs.declared.faults.ProgramFault.TheVariants as fault
 use Rattle.nb_lines.specs.declared.faults.ProgramFault.{ProgramFault}
 use Rattle.nb_long.specs.Handles.{HandleOf}
 use Rattle.nb_long.specs.NewStore.{HasRenewedStore}
-use Rattle.nb_long.specs.Renewing.{IsKept}
+use Rattle.nb_long.specs.Renewing.{HasTooMany, IsKept}
 use Rattle.nb_long.specs.declared.new_store.Renewed.{Renewed}
 use Rattle.nb_cache.specs.Evicting.{HasEvicted}
 use Rattle.nb_cache.specs.Pages.{IsSamePage}
@@ -23,9 +23,10 @@ abbrev pub IsMadeAnew : (before after : HandleOf) → Renewed Page → Type 0
 IsMadeAnew before after renewed =
     HasRenewedStore IsSamePage before.map.map.chain.shape before after renewed
 
--- the fault is that the map has more keys than slots, or a page wasn't shown
-abbrev pub IsNotRenewed : ProgramFault → Type 0
-IsNotRenewed told = (told ≡ fault.FullOfKeys) ⊎ (told ≡ fault.Unshown)
+-- the fault is that the map has more keys than slots, which it has, or that a page wasn't shown
+abbrev pub IsNotRenewed : HandleOf → ProgramFault → Type 0
+IsNotRenewed cache told =
+    ((told ≡ fault.FullOfKeys) × HasTooMany cache.map.map.chain.shape cache) ⊎ (told ≡ fault.Unshown)
 
 -- the fault is that memory is refused, or a page wasn't shown
 abbrev pub IsNotListed : ProgramFault → Type 0
@@ -58,21 +59,22 @@ pub record HasNotFreedStale (stored keys : ℕ) (before after : HandleOf) (told 
     Type 0 where
   pub many : 2 * keys + FEW < stored
   pub kept : IsKept before after
-  pub why : IsNotRenewed told
+  pub why : IsNotRenewed before told
 
 -- The oldest went, as many as had to for half of the budget, and the cache is as it was else.
-pub record HasOnlyEvicted (budget : Budget) (before after : HandleOf) : Type 0 where
+pub record HasOnlyEvicted (budget : Budget) (before after : HandleOf) (told : ProgramFault) :
+    Type 0 where
   pub between : HandleOf
   pub evicted : Evicted
   pub old : HasEvicted (budget.texts / 2) before between evicted
   pub kept : IsKept between after
+  pub why : (told ≡ fault.OutOfMemory) ⊎ IsNotRenewed between told
 
 -- Room was to be made where there is none, which failed: all texts are there, or the oldest went.
 pub record HasNotFreedOld (budget : Budget) (stored coming : ℕ) (before after : HandleOf)
     (told : ProgramFault) : Type 0 where
   pub tight : budget.texts < stored + coming
-  pub left : IsKept before after ⊎ HasOnlyEvicted budget before after
-  pub why : (told ≡ fault.OutOfMemory) ⊎ IsNotRenewed told
+  pub left : IsKept before after × IsNotListed told ⊎ HasOnlyEvicted budget before after told
 
 -- ---- what is gone
 

@@ -1,8 +1,7 @@
 //! When the cache is made anew, and how.
-ghost use Rattle.std.specs.Prelude.{◌≡◌, ◌*◌, ◌+◌, ◌<◌, ◌↔◌, Err, IfErr, IfOk, IsTrue, MatchOption, OnErr};
-ghost use Rattle.nb_lines.specs.declared.faults.ProgramFault.TheVariants as fault;
+ghost use Rattle.std.specs.Prelude.{◌≡◌, ◌*◌, ◌+◌, ◌<◌, ◌↔◌, IfErr, IfOk, IsTrue, MatchOption, OnErr};
 ghost use Rattle.nb_long.specs.Handles.{IsWhole};
-ghost use Rattle.nb_long.specs.Renewing.{HasTooMany, IsKept};
+ghost use Rattle.nb_long.specs.Renewing.{IsKept};
 ghost use Rattle.nb_cache.specs.Renewing.{HasFreedStale, HasFreedOld, HasNotFreedOld, HasNotFreedStale, IsMadeAnew, IsNotRenewed, beyond, gone_with};
 ghost use Rattle.nb_cache.specs.declared.renewing.TheConstants.{FEW};
 
@@ -178,9 +177,7 @@ fn renewed<R: Wait>(
     ensures renewed { IfOk result (λ renewed. MatchOption renewed (IsKept cache.old cache.new)
         (IsMadeAnew cache.old cache.new)) }
     ensures kept { IfErr result (λ _. IsKept cache.old cache.new) }
-    ensures full { result ≡ Err fault.FullOfKeys
-        → HasTooMany cache.old.map.map.chain.shape cache.old }
-    ensures errors { IfErr result IsNotRenewed }
+    ensures errors { IfErr result (IsNotRenewed cache.old) }
 {
     let shape = *cache.shape();
     match cache.renew_store(rt, alloc, shape) {

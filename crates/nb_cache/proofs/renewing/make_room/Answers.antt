@@ -25,7 +25,8 @@ tight room sum texts none is =
 only-old :
     (budget : Budget) (stored coming most : ℕ) (before between after : HandleOf) (evicted : Evicted)
     (told : ProgramFault) → budget.texts < stored + coming → HasEvicted most before between evicted
-    → most ≡ budget.texts / 2 → IsKept between after → (told ≡ fault.OutOfMemory) ⊎ IsNotRenewed told
+    → most ≡ budget.texts / 2 → IsKept between after
+    → (told ≡ fault.OutOfMemory) ⊎ IsNotRenewed between told
     → HasNotFreedOld budget stored coming before after told
 only-old budget stored coming most before between after evicted told less old half kept why = record {
   tight = less;
@@ -34,8 +35,8 @@ only-old budget stored coming most before between after evicted told less old ha
     evicted = evicted;
     old = subst (λ n. HasEvicted n before between evicted) half old;
     kept = kept;
+    why = why;
   });
-  why = why;
 }
 
 pub returns-in_err-renewed-clause-failed : goal.returns-in_err-renewed-clause-failed
