@@ -14,7 +14,7 @@ use Rattle.nb_lasting.specs.Gathered.{HasWrittenBy}
 use Rattle.nb_lasting.specs.Holding.{HasTriedOnAs, tried_of}
 use Rattle.nb_lasting.specs.Renewal.{AreAllHome, AreHomeStill, HoldsBelow, IsHomeSeen}
 use Rattle.nb_lasting.specs.Tries.{Again, Anew, Done, HasTriedWithAll, NoRoom, WithAll}
-use Rattle.nb_lasting.specs.Visits.{AreBack, AreBackSeen, AreBackStill, HasBegunAgain, HasGoneRound, HasMadeMapAnew, HasTakenAll, SharedOf, gave, took_all}
+use Rattle.nb_lasting.specs.Visits.{AreBack, AreBackSeen, AreBackStill, HasGoneRound, HasMadeMapAnew, HasTakenAll, SharedOf, gave, took_all}
 use Rattle.nb_lasting.specs.declared.faults.GrowFault.{GrowFault}
 use Rattle.nb_lasting.specs.declared.faults.WriteFault.{WriteFault}
 use Rattle.nb_lasting.specs.declared.shared.Account.{Account}

@@ -198,8 +198,9 @@ static inline uint64_t swapped(uint64_t key)
 }
 
 /* In a divided map that mixes nothing a key belongs to the part that its lowest bits tell, and stands there as the number that its other
-   bits tell, with its part before that. So keys in a row go round all parts, and have slots in a row in each; and threads that take the
-   next ones by turns, one of 2, 4 or 8 each, share no line of the cache. The two numbers that are no keys stay as they are. */
+   bits tell, with its part before that. So keys in a row go round all parts, and have slots in a row in each; where each of 2, 4 or 8
+   threads takes the next key by turns, no two share a line of the cache. Keys with the same lowest bits are all in one part. The two
+   numbers that are no keys stay as they are. */
 static inline uint64_t part_first(uint64_t key)
 {
     key = swapped(key);
