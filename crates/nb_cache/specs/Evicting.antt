@@ -1,8 +1,10 @@
 -- Which texts an eviction takes out, and what is left of the cache.
-use Rattle.std.specs.Prelude.{◌≡◌, ◌-◌, ◌<◌, ◌≤◌, ◌^◌, ℕ, Bool, true, false, List, All, filter, length, map, min, nat_le, not, reverse}
+use Rattle.std.specs.Prelude.{◌≡◌, ◌-◌, ◌<◌, ◌≤◌, ◌^◌, ◌⊎◌, ℕ, Bool, true, false, List, All, filter, length, map, min, nat_le, not, reverse}
 use Rattle.boxcar.specs.Table.{Shelves, Shows}
 use Rattle.nb_core.specs.declared.calls.Call.{Call}
 use Rattle.nb_core.specs.declared.calls.Reply.{Reply}
+use Rattle.nb_lines.specs.declared.faults.ProgramFault.TheVariants as fault
+use Rattle.nb_lines.specs.declared.faults.ProgramFault.{ProgramFault}
 use Rattle.nb_long.specs.Handles.{HandleOf, IsSameMap, seats_of}
 use Rattle.nb_long.specs.Typed.{LongMapOf}
 use Rattle.nb_map.specs.Ending.{EndedOf, EndedWith, map_left}
@@ -74,3 +76,7 @@ pub record HasEvicted (most : ℕ) (before after : HandleOf) (evicted : Evicted)
   -- how many went, and what the others are counted for, as far as 64 bits tell it
   pub texts : evicted.texts ≡ length (old_texts evicted.first evicted.all.items)
   pub count : evicted.left ≡ min (counted_from evicted.all.items evicted.first) (2 ^ 64 - 1)
+
+-- the fault is that memory is refused, or a page wasn't shown
+abbrev pub IsNotListed : ProgramFault → Type 0
+IsNotListed told = (told ≡ fault.OutOfMemory) ⊎ (told ≡ fault.Unshown)

@@ -1,8 +1,10 @@
 -- Pages: texts under their keys, and what is found of them.
-use Rattle.std.specs.Prelude.{◌≡◌, ℕ, List, MatchOption, None, Ok, Option, Some, if◌then◌else◌}
+use Rattle.std.specs.Prelude.{◌≡◌, ◌⊎◌, ℕ, List, MatchOption, None, Ok, Option, Some, if◌then◌else◌}
 use Rattle.boxcar.specs.Table.{Where}
 use Rattle.core.specs.Str.{bytes_eq}
 use Rattle.nb_core.specs.declared.calls.Want.TheVariants as want
+use Rattle.nb_lines.specs.declared.faults.ProgramFault.TheVariants as fault
+use Rattle.nb_lines.specs.declared.faults.ProgramFault.{ProgramFault}
 use Rattle.nb_long.specs.Promises.{HasGotValue, HasPutValue}
 use Rattle.nb_long.specs.Typed.{LongMapOf}
 use Rattle.nb_long.specs.declared.map.Stored.{Stored}
@@ -61,3 +63,7 @@ IsDone (Put text) m place name line before after page =
     (stored : Stored Page) × (page ≡ Some stored.receipt)
     × HasPutText m place name text.now line before after stored
 IsDone PutTooLarge m place name line before after page = HasDropped m place name before after page
+
+-- a call fails for want of memory or of room, or since a page isn't shown
+abbrev pub IsCallFault : ProgramFault → Type 0
+IsCallFault told = (told ≡ fault.OutOfMemory) ⊎ (told ≡ fault.FullOfKeys) ⊎ (told ≡ fault.Unshown)

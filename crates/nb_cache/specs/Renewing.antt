@@ -6,7 +6,7 @@ use Rattle.nb_long.specs.Handles.{HandleOf}
 use Rattle.nb_long.specs.NewStore.{HasRenewedStore}
 use Rattle.nb_long.specs.Renewing.{HasTooMany, IsKept}
 use Rattle.nb_long.specs.declared.new_store.Renewed.{Renewed}
-use Rattle.nb_cache.specs.Evicting.{HasEvicted}
+use Rattle.nb_cache.specs.Evicting.{HasEvicted, IsNotListed}
 use Rattle.nb_cache.specs.Pages.{IsSamePage}
 use Rattle.nb_cache.specs.declared.budget.Budget.{Budget}
 use Rattle.nb_cache.specs.declared.calls.Counts.{Counts}
@@ -27,10 +27,6 @@ IsMadeAnew before after renewed =
 abbrev pub IsNotRenewed : HandleOf → ProgramFault → Type 0
 IsNotRenewed cache told =
     ((told ≡ fault.FullOfKeys) × HasTooMany cache.map.map.chain.shape cache) ⊎ (told ≡ fault.Unshown)
-
--- the fault is that memory is refused, or a page wasn't shown
-abbrev pub IsNotListed : ProgramFault → Type 0
-IsNotListed told = (told ≡ fault.OutOfMemory) ⊎ (told ≡ fault.Unshown)
 
 -- Stale texts are freed where with so many keys the store has too many texts, if memory isn't refused.
 abbrev pub HasFreedStale :

@@ -5,8 +5,7 @@ ghost use Rattle.nb_long.specs.Handles.{IsWhole, KeepsRest, seats_of};
 ghost use Rattle.nb_long.specs.Renewing.{IsKept};
 ghost use Rattle.nb_lines.specs.declared.faults.ProgramFault.TheVariants as fault;
 ghost use Rattle.nb_cache.specs.Ages.{counted_from};
-ghost use Rattle.nb_cache.specs.Evicting.{GoesIfOld, HasEvicted, HasTakenOut, IsCached, entry_of_text, old_texts};
-ghost use Rattle.nb_cache.specs.Renewing.{IsNotListed};
+ghost use Rattle.nb_cache.specs.Evicting.{GoesIfOld, HasEvicted, HasTakenOut, IsCached, IsNotListed, entry_of_text, old_texts};
 
 use crate::budget::Age;
 use crate::pages::{Page, page_of};

@@ -1,4 +1,5 @@
 //! Parsing: each line of a block is read once, by one of the workers.
+ghost use Rattle.std.specs.Prelude.{◌≡◌};
 
 use crate::options::Plan;
 use crate::trace::{Request, read_request};
@@ -35,12 +36,20 @@ enum Stop {
 }
 
 impl From<Cause> for Stop {
+    ghost use Rattle.nb_cache.specs.declared.parsing.Stop.TheVariants.{Line};
+
+    ghost from_gives = { λ cause stop. stop ≡ Line cause };
+
     fn from(cause: Cause) -> Stop {
         Stop::Line(cause)
     }
 }
 
 impl From<OutOfMemory> for Stop {
+    ghost use Rattle.nb_cache.specs.declared.parsing.Stop.TheVariants.{OutOfMemory};
+
+    ghost from_gives = { λ _ stop. stop ≡ OutOfMemory };
+
     fn from(_fault: OutOfMemory) -> Stop {
         Stop::OutOfMemory
     }

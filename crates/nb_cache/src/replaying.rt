@@ -1,8 +1,8 @@
 //! Replaying: workers that share a cache, each with keys of its own.
-ghost use Rattle.std.specs.Prelude.{◌≡◌, ◌+◌, ◌%◌, ◌^◌, ℕ, IfOk};
+ghost use Rattle.std.specs.Prelude.{◌≡◌, ◌+◌, ◌%◌, ◌^◌, ℕ, IfErr, IfOk};
 ghost use Rattle.nb_lines.specs.Keys.{number_at};
 ghost use Rattle.nb_long.specs.Handles.{IsWhole, KeepsRest};
-ghost use Rattle.nb_cache.specs.Pages.{IsDone};
+ghost use Rattle.nb_cache.specs.Pages.{IsCallFault, IsDone};
 
 use crate::calls::{Counts, Worker, get, put, put_too_large};
 use crate::options::Plan;
@@ -133,6 +133,7 @@ fn replay_part<R: Wait + Eprint>(
     number: usize,
 ) -> Result<(), ProgramFault>
     ensures rest { KeepsRest handle.old handle.new }
+    ensures errors { IfErr result IsCallFault }
 {
     for part in block.trace.parts.iter() {
         if let Some(requests) = part.requests.get(number) {
@@ -155,6 +156,7 @@ fn replay_requests<R: Wait + Eprint>(
     requests: &[Request<'_>],
 ) -> Result<(), ProgramFault>
     ensures rest { KeepsRest handle.old handle.new }
+    ensures errors { IfErr result IsCallFault }
 {
     let mut lines = 0u64;
     for request in requests {
@@ -192,6 +194,7 @@ fn call<R: Wait>(
         × (number_at place ≡ request.entry.key.number)
         × IsDone request.entry.action handle.old.map place request.entry.key.name.now
         ((before + request.entry.line) % 2 ^ 64) handle.old.seat handle.new.seat page) }
+    ensures errors { IfErr result IsCallFault }
 {
     let Request { key, line, action } = request;
     let place = key_of(key.number).unwrap();

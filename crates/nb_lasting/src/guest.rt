@@ -294,19 +294,20 @@ impl Guest {
         let renewals = self.hall.renewals.load(Ordering::SeqCst);
         let found = self.look(rt);
         if found.should_renew() {
-            let _ = self.renew(rt, renewals);
+            self.renew(rt, renewals);
         }
     }
 
-    /// Makes the map anew, with room for twice the keys that it has, unless it was made anew since
-    /// there were so many renewals.
-    fn renew<R: Wait>(&mut self, rt: &R, renewals: u64) -> Result<(), GrowFault>
+    /// Makes the map anew, with room for twice the keys that it has, if there is memory, and unless it
+    /// was made anew since there were so many renewals.
+    fn renew<R: Wait>(&mut self, rt: &R, renewals: u64)
         ensures called { GuestHasCalled self.old self.new [] }
         ensures round { HasGoneRound self.old.of (AreBack self.old.of self.old.number) self.old.account
             self.new.account }
         ensures left { self.new.left ≡ self.old.left }
     {
-        renew_through(rt, &self.hall, &mut self.token, self.lane, renewals)
+        // Where memory is refused the map goes on, and a write that finds it full tries again.
+        let _ = renew_through(rt, &self.hall, &mut self.token, self.lane, renewals);
     }
 
     /// A write that puts no sum.

@@ -20,7 +20,7 @@ returns-clause-dropped g c =
     let told : IsFound found (text_found page name)
     = subst (λ page. IsFound found (text_found page name)) (sym is) c.text_in.ensures in
     let got = got-page place before between c.number_at-number.result shown page
-    c.number_at-number.ensures.got same c.in_ok-page.ensures is in
+    c.number_at-number.ensures.got same c.in_ok-page.ensures.shown is in
     let Dropped = λ (after : HandleOf).
     HasDropped before.map place name before.seat after.seat page in
     elim c.if-is_there.branch [
