@@ -1,5 +1,5 @@
 -- Pages: texts under their keys, and what is found of them.
-use Rattle.std.specs.Prelude.{◌≡◌, ◌⊎◌, ℕ, List, MatchOption, None, Ok, Option, Some, if◌then◌else◌}
+use Rattle.std.specs.Prelude.{◌≡◌, ◌⊎◌, ℕ, Err, List, MatchOption, None, Ok, Option, Some, if◌then◌else◌}
 use Rattle.boxcar.specs.Table.{Where}
 use Rattle.core.specs.Str.{bytes_eq}
 use Rattle.nb_core.specs.declared.calls.Want.TheVariants as want
@@ -7,6 +7,8 @@ use Rattle.nb_lines.specs.declared.faults.ProgramFault.TheVariants as fault
 use Rattle.nb_lines.specs.declared.faults.ProgramFault.{ProgramFault}
 use Rattle.nb_long.specs.Promises.{HasGotValue, HasPutValue}
 use Rattle.nb_long.specs.Typed.{LongMapOf}
+use Rattle.nb_long.specs.declared.map.LongFault.TheVariants as refusal
+use Rattle.nb_long.specs.declared.map.LongFault.{LongFault}
 use Rattle.nb_long.specs.declared.map.Stored.{Stored}
 use Rattle.nb_map.specs.Maps.{SeatOf}
 use Rattle.nb_map.specs.NamedCalls.{remove_of}
@@ -40,6 +42,10 @@ pub record HasPutText (m : LongMapOf) (place : ℕ) (name text : List ℕ) (line
   pub line_is : stored.receipt.value.line ≡ line
   pub wrote : HasPutValue m place want.Any stored.receipt.value before after (Ok stored)
 
+-- the map's get has found a number at the place, under which the store shows nothing
+abbrev pub IsUnshownAt : LongMapOf → (place : ℕ) → (before after : SeatOf) → Type 0
+IsUnshownAt m place before after = HasGotValue {V = Page} m place before after (Err (record {}))
+
 -- what is at the place is taken out by one call
 abbrev pub IsTakenOut : LongMapOf → (place : ℕ) → (before after : SeatOf) → Type 0
 IsTakenOut m place before after = (number : Option ℕ)
@@ -63,6 +69,54 @@ IsDone (Put text) m place name line before after page =
     (stored : Stored Page) × (page ≡ Some stored.receipt)
     × HasPutText m place name text.now line before after stored
 IsDone PutTooLarge m place name line before after page = HasDropped m place name before after page
+
+-- what a put says of why the typed map has refused its page
+abbrev pub refusal_told : LongFault Page → ProgramFault
+refusal_told (refusal.OutOfMemory page) = fault.OutOfMemory
+refusal_told (refusal.ValueRange placed) = fault.FullOfKeys
+refusal_told (refusal.Full receipt) = fault.FullOfKeys
+refusal_told (refusal.Unshown receipt) = fault.Unshown
+
+-- The map's put of a page with the key, this text, and the number of this line was refused, and that
+-- is what is told.
+pub record HasRefusedText (m : LongMapOf) (place : ℕ) (name text : List ℕ) (line : ℕ)
+    (before after : SeatOf) (told : ProgramFault) : Type 0 where
+  pub page : Page
+  pub name_is : page.name.items ≡ name
+  pub text_is : page.text.items ≡ text
+  pub line_is : page.line ≡ line
+  pub refused : LongFault Page
+  pub told_is : told ≡ refusal_told refused
+  pub wrote : HasPutValue m place want.Any page before after (Err refused)
+
+-- A get has failed: there was no memory for its reply, or what the map has at the place isn't shown.
+-- It has made the map's get all the same.
+abbrev pub HasFailedGet : LongMapOf → (place : ℕ) → (before after : SeatOf) → ProgramFault → Type 0
+HasFailedGet m place before after told =
+    ((told ≡ fault.OutOfMemory)
+    × (page : Option (Where Page)) × HasGotValue m place before after (Ok page))
+    ⊎ ((told ≡ fault.Unshown) × IsUnshownAt m place before after)
+
+-- A put has failed: there was no memory for a page, and no call was made; or the map has refused the
+-- page; or it was put, and the page that was at the place before isn't shown.
+abbrev pub HasFailedPut :
+    LongMapOf → (place : ℕ) → (name text : List ℕ) → (line : ℕ) → (before after : SeatOf)
+    → ProgramFault → Type 0
+HasFailedPut m place name text line before after told =
+    ((told ≡ fault.OutOfMemory) × (after ≡ before))
+    ⊎ HasRefusedText m place name text line before after told
+    ⊎ ((told ≡ fault.Unshown)
+    × (stored : Stored Page) × HasPutText m place name text line before after stored)
+
+-- what a line asks for has failed at the place, for the reason that is told
+abbrev pub IsFailed :
+    Action → LongMapOf → (place : ℕ) → (name : List ℕ) → (line : ℕ) → (before after : SeatOf)
+    → ProgramFault → Type 0
+IsFailed Get m place name line before after told = HasFailedGet m place before after told
+IsFailed (Put text) m place name line before after told =
+    HasFailedPut m place name text.now line before after told
+IsFailed PutTooLarge m place name line before after told =
+    (told ≡ fault.Unshown) × IsUnshownAt m place before after
 
 -- a call fails for want of memory or of room, or since a page isn't shown
 abbrev pub IsCallFault : ProgramFault → Type 0

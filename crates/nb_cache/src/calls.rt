@@ -1,10 +1,10 @@
 //! The calls of the cache: a key's text is got, or put.
-ghost use Rattle.std.specs.Prelude.{◌≡◌, ◌+◌, ◌%◌, ◌^◌, ◌&&◌, ◌++◌, ◌⊎◌, IfErr, IfOk, IsTrue, MatchOption, None, Ok, Some, if◌then◌else◌, is_none, is_some};
+ghost use Rattle.std.specs.Prelude.{◌≡◌, ◌+◌, ◌%◌, ◌^◌, ◌&&◌, ◌++◌, ℕ, IfErr, IfOk, IsTrue, MatchOption, None, Ok, Some, if◌then◌else◌, is_none, is_some};
 ghost use Rattle.nb_lines.specs.declared.faults.ProgramFault.TheVariants as fault;
 ghost use Rattle.nb_long.specs.Handles.{KeepsRest};
 ghost use Rattle.nb_long.specs.Promises.{HasGotValue};
 ghost use Rattle.nb_long.specs.Typed.{IsValueShown};
-ghost use Rattle.nb_cache.specs.Pages.{HasDropped, HasPutText, IsCallFault, text_found};
+ghost use Rattle.nb_cache.specs.Pages.{HasDropped, HasFailedGet, HasFailedPut, HasPutText, IsUnshownAt, text_found, refusal_told};
 ghost use Rattle.nb_cache.specs.Replies.{reply_line};
 
 use crate::pages::{Page, page_of};
@@ -98,7 +98,7 @@ pub(crate) fn get(
         → worker.new.replies.text.items ≡ worker.old.replies.text.items
         ++ reply_line key.entry.number key.entry.name.now
         (text_found page key.entry.name.now)) }
-    ensures errors { IfErr result (λ told. (told ≡ fault.OutOfMemory) ⊎ (told ≡ fault.Unshown)) }
+    ensures errors { IfErr result (HasFailedGet handle.old.map place handle.old.seat handle.new.seat) }
 {
     let number = handle.number_at(place);
     let page = page_at(handle, number)?;
@@ -118,7 +118,7 @@ fn page_at(
     number: Option<Num>,
 ) -> Result<Option<Found<'_, Page>>, ProgramFault>
     ensures shown { IfOk result (λ page. IsValueShown cache.now.map.store number (Ok page)) }
-    ensures error { IfErr result (λ told. told ≡ fault.Unshown) }
+    ensures error { IfErr result (λ told. (told ≡ fault.Unshown) × (n : ℕ) × (number ≡ Some n)) }
 {
     let Some(number) = number else {
         return Ok(None);
@@ -151,7 +151,8 @@ pub(crate) fn put<R: Wait>(
     ensures rest { KeepsRest handle.old handle.new }
     ensures put { IfOk result (HasPutText handle.old.map place key.entry.name.now text.now
         worker.old.line handle.old.seat handle.new.seat) }
-    ensures errors { IfErr result IsCallFault }
+    ensures errors { IfErr result (HasFailedPut handle.old.map place key.entry.name.now text.now
+        worker.old.line handle.old.seat handle.new.seat) }
 {
     let page = Page::new(alloc, key.name, text, worker.line)?;
     let count = page.age().count;
@@ -198,7 +199,8 @@ pub(crate) fn put_too_large<R: Wait>(
     ensures rest { KeepsRest handle.old handle.new }
     ensures dropped { IfOk result (HasDropped handle.old.map place name.now handle.old.seat
         handle.new.seat) }
-    ensures error { IfErr result (λ told. told ≡ fault.Unshown) }
+    ensures error { IfErr result (λ told. (told ≡ fault.Unshown)
+        × IsUnshownAt handle.old.map place handle.old.seat handle.new.seat) }
 {
     let number = handle.number_at(place);
     let page = page_at(handle, number)?;
@@ -216,7 +218,7 @@ pub(crate) fn put_too_large<R: Wait>(
 /// What a refused put comes to. So many puts that their numbers are past the greatest are out of
 /// reach.
 fn fault_of(refused: LongFault<Page>) -> ProgramFault
-    ensures { IsCallFault result }
+    ensures { result ≡ refusal_told refused }
 {
     match refused {
         LongFault::OutOfMemory(_) => ProgramFault::OutOfMemory,

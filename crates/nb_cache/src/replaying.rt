@@ -2,7 +2,7 @@
 ghost use Rattle.std.specs.Prelude.{◌≡◌, ◌+◌, ◌%◌, ◌^◌, ℕ, IfErr, IfOk};
 ghost use Rattle.nb_lines.specs.Keys.{number_at};
 ghost use Rattle.nb_long.specs.Handles.{IsWhole, KeepsRest};
-ghost use Rattle.nb_cache.specs.Pages.{IsCallFault, IsDone};
+ghost use Rattle.nb_cache.specs.Pages.{IsFailed, IsCallFault, IsDone};
 
 use crate::calls::{Counts, Worker, get, put, put_too_large};
 use crate::options::Plan;
@@ -194,7 +194,10 @@ fn call<R: Wait>(
         × (number_at place ≡ request.entry.key.number)
         × IsDone request.entry.action handle.old.map place request.entry.key.name.now
         ((before + request.entry.line) % 2 ^ 64) handle.old.seat handle.new.seat page) }
-    ensures errors { IfErr result IsCallFault }
+    ensures failed { IfErr result (λ told. (place : ℕ)
+        × (number_at place ≡ request.entry.key.number)
+        × IsFailed request.entry.action handle.old.map place request.entry.key.name.now
+        ((before + request.entry.line) % 2 ^ 64) handle.old.seat handle.new.seat told) }
 {
     let Request { key, line, action } = request;
     let place = key_of(key.number).unwrap();

@@ -1,5 +1,5 @@
 -- The tests that numbers pass before they make a shape.
-use Rattle.std.proofs.Common.{◌≡◌, ℕ, ◌+◌, ◌^◌, ◌<◌, ◌≤◌, Bool, true, false, MatchBool, List, [], ◌∷◌, length, get_or, leb, suc, zero, refl, subst, arith, add-one, Ok, Err}
+use Rattle.std.proofs.Common.{Result, ◌≡◌, ℕ, ◌+◌, ◌<◌, ◌≤◌, Bool, true, false, MatchBool, List, [], ◌∷◌, length, get_or, leb, suc, zero, refl, subst, arith, add-one, Ok, Err}
 use Rattle.std.specs.List.{All, list_all}
 use Rattle.std.specs.List.Sorted.{IsNonDecreasing}
 use Rattle.std.proofs.lemmas.Bool.{and_from, and_left, and_right, le-leb, lt-leb}
@@ -7,7 +7,8 @@ use Rattle.std.proofs.lemmas.Bool.Decides.{nat_tests}
 use Rattle.std.proofs.lemmas.List.Sorted.{IsNonDecreasingBy-drop}
 use Rattle.std.proofs.lemmas.List.Sums.{list_all-from_AllPass}
 use Rattle.nb_core.specs.declared.shapes.ShapeFault.TheVariants as fault
-use Rattle.nb_core.specs.Plans.{checked_tables, checked_plan, is_within, never_falls, plan, seated, slots_in}
+use Rattle.nb_core.specs.declared.shapes.ShapeFault.{ShapeFault}
+use Rattle.nb_core.specs.Plans.{Plan, checked_exponents, is_within, never_falls, plan, seated}
 
 pub is_within-true : (low high n : ℕ) → (low ≤ n) × (n ≤ high) → is_within low high n ≡ true
 is_within-true low high n h = grind (arith, nat_tests)
@@ -55,43 +56,15 @@ list_all-is_within most es sizes =
     (λ k d within. is_within-true 2 most (get_or es k d) (sizes k d within))
 
 -- with so many exponents of these sizes, only a fall is left to refuse
-pub checked_plan-rises :
-    (es : List ℕ) (seats stripes : ℕ) → (1 ≤ length es) × (length es ≤ 16)
-    → All (λ e. (2 ≤ e) × (e ≤ 19)) es → never_falls es ≡ true
-    → checked_plan es seats stripes ≡ seated es seats stripes
-checked_plan-rises es seats stripes few sizes rises =
-    rw (is_within-true 1 16 (length es) few, list_all-is_within 19 es sizes, rises)
+module _ (largest : ℕ) (es : List ℕ) (passed : Result Plan ShapeFault)
+    (few : (1 ≤ length es) × (length es ≤ 16))
+    (sizes : All (λ e. (2 ≤ e) × (e ≤ largest)) es) where
+  pub checked_exponents-falls :
+      never_falls es ≡ false → checked_exponents largest es passed ≡ Err fault.Plan
+  checked_exponents-falls falls =
+      rw (is_within-true 1 16 (length es) few, list_all-is_within largest es sizes, falls)
 
-pub checked_plan-falls :
-    (es : List ℕ) (seats stripes : ℕ) → (1 ≤ length es) × (length es ≤ 16)
-    → All (λ e. (2 ≤ e) × (e ≤ 19)) es → never_falls es ≡ false
-    → checked_plan es seats stripes ≡ Err fault.Plan
-checked_plan-falls es seats stripes few sizes falls =
-    rw (is_within-true 1 16 (length es) few, list_all-is_within 19 es sizes, falls)
-
--- with so many exponents of larger tables, a fall or too many slots are left to refuse
-module _ (es : List ℕ) (few : (1 ≤ length es) × (length es ≤ 16))
-    (sizes : All (λ e. (2 ≤ e) × (e ≤ 28)) es) where
-  pub checked_tables-falls : never_falls es ≡ false → checked_tables es ≡ Err fault.Plan
-  checked_tables-falls falls =
-      rw (is_within-true 1 16 (length es) few, list_all-is_within 28 es sizes, falls)
-
-  pub checked_tables-many :
-      never_falls es ≡ true → 2 ^ 30 < slots_in es → checked_tables es ≡ Err fault.Slots
-  checked_tables-many rises many =
-      rw (
-        is_within-true 1 16 (length es) few,
-        list_all-is_within 28 es sizes,
-        rises,
-        lt-leb (slots_in es) (2 ^ 30) many,
-      )
-
-  pub checked_tables-rises :
-      never_falls es ≡ true → slots_in es ≤ 2 ^ 30 → checked_tables es ≡ Ok (plan es 1 1)
-  checked_tables-rises rises fits =
-      rw (
-        is_within-true 1 16 (length es) few,
-        list_all-is_within 28 es sizes,
-        rises,
-        le-leb (slots_in es) (2 ^ 30) fits,
-      )
+  pub checked_exponents-rises :
+      never_falls es ≡ true → checked_exponents largest es passed ≡ passed
+  checked_exponents-rises rises =
+      rw (is_within-true 1 16 (length es) few, list_all-is_within largest es sizes, rises)

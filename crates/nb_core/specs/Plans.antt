@@ -155,23 +155,28 @@ seated exponents seats stripes =
     else if not (is_within 1 FEW_STRIPES stripes) then Err fault.Stripes
     else Ok (plan exponents seats stripes)
 
+-- the first thing that is wrong with the exponents of 1 to 16 tables, of which none is larger than
+-- the largest, nor smaller than the one before it, or else this
+abbrev pub checked_exponents :
+    (largest : ℕ) (exponents : List ℕ) → Result Plan ShapeFault → Result Plan ShapeFault
+checked_exponents largest exponents passed =
+    if not (is_within 1 MAX_GENERATIONS (length exponents)) then Err fault.Generations
+    else if not (list_all (is_within 2 largest) exponents) then Err fault.Bits
+    else if not (never_falls exponents) then Err fault.Plan
+    else passed
+
 -- the plan of these exponents, or the first thing that is wrong with it
 abbrev pub checked_plan : List ℕ → ℕ → ℕ → Result Plan ShapeFault
 checked_plan exponents seats stripes =
-    if not (is_within 1 MAX_GENERATIONS (length exponents)) then Err fault.Generations
-    else if not (list_all (is_within 2 SMALL_EXPONENT) exponents) then Err fault.Bits
-    else if not (never_falls exponents) then Err fault.Plan
-    else seated exponents seats stripes
+    checked_exponents SMALL_EXPONENT exponents (seated exponents seats stripes)
 
 -- the plan of these exponents, larger ones too, with one seat and one stripe, or the first thing
 -- that is wrong with it
 abbrev pub checked_tables : List ℕ → Result Plan ShapeFault
 checked_tables exponents =
-    if not (is_within 1 MAX_GENERATIONS (length exponents)) then Err fault.Generations
-    else if not (list_all (is_within 2 MAX_EXPONENT) exponents) then Err fault.Bits
-    else if not (never_falls exponents) then Err fault.Plan
-    else if not (nat_le (slots_in exponents) MAX_SLOTS) then Err fault.Slots
-    else Ok (plan exponents 1 1)
+    checked_exponents MAX_EXPONENT exponents
+    (if not (nat_le (slots_in exponents) MAX_SLOTS) then Err fault.Slots
+    else Ok (plan exponents 1 1))
 
 -- so many numbers, from first on
 abbrev pub rising : ℕ → ℕ → List ℕ

@@ -1,11 +1,15 @@
 //! The shape of a chain of tables.
-ghost use Rattle.std.specs.Prelude.{◌≡◌, ◌/◌, ◌-◌, ◌^◌, ◌<◌, ◌≤◌, All, length};
+ghost use Rattle.std.specs.Prelude.{◌≡◌, ◌/◌, ◌-◌, ◌^◌, ◌<◌, ◌≤◌, All, IfOk, Result, length};
+ghost use Rattle.std.specs.Result.{result_and};
+ghost use Rattle.nb_core.specs.declared.shapes.ShapeFault.{ShapeFault};
 ghost use Rattle.std.specs.List.Sorted.{IsNonDecreasing};
 ghost use Rattle.nb_core.specs.Plans.{
   IsChunk,
   IsPlan,
+  Plan,
   base_of,
   checked_chunk,
+  checked_exponents,
   checked_plan,
   checked_reprobes,
   checked_shape,
@@ -233,15 +237,7 @@ impl Shape {
     pub fn with_plan(exponents: &[u32], seats: usize, stripes: usize) -> Result<Shape, ShapeFault>
         ensures { result ≡ checked_plan exponents.now seats stripes }
     {
-        if !(1..=MAX_GENERATIONS).contains(&exponents.len()) {
-            return Err(ShapeFault::Generations);
-        }
-        if !exponents.iter().all(|e| (2..=SMALL_EXPONENT).contains(e)) {
-            return Err(ShapeFault::Bits);
-        }
-        if !exponents.is_sorted() {
-            return Err(ShapeFault::Plan);
-        }
+        check_exponents(exponents, SMALL_EXPONENT)?;
         Self::seated(exponents, seats, stripes)
     }
 
@@ -415,4 +411,25 @@ impl Shape {
     {
         self.words as usize
     }
+}
+
+/// Refuses exponents, unless there are 1 to 16 from 2 to the largest, none below the one before it.
+fn check_exponents(exponents: &[u32], largest: u32) -> Result<(), ShapeFault>
+    ensures first { (passed : Result Plan ShapeFault)
+        → checked_exponents largest exponents.now passed ≡ result_and result passed }
+    ensures tables { IfOk result (λ _. (1 ≤ length exponents.now)
+        × (length exponents.now ≤ MAX_GENERATIONS)) }
+    ensures sizes { IfOk result (λ _. All (λ e. (2 ≤ e) × (e ≤ largest)) exponents.now) }
+    ensures never_fall { IfOk result (λ _. IsNonDecreasing exponents.now) }
+{
+    if !(1..=MAX_GENERATIONS).contains(&exponents.len()) {
+        return Err(ShapeFault::Generations);
+    }
+    if !exponents.iter().all(|e| (2..=largest).contains(e)) {
+        return Err(ShapeFault::Bits);
+    }
+    if !exponents.is_sorted() {
+        return Err(ShapeFault::Plan);
+    }
+    Ok(())
 }

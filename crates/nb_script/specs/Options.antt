@@ -30,17 +30,26 @@ checked_rule name parser default =
 abbrev pub number_rule : Text → ℕ → ℕ → Text → Rule
 number_rule name low high default = checked_rule name (Signed (pos low) (pos high)) default
 
--- the command line of nbrun
-abbrev pub nbrun : App
-nbrun = with_rule (with_rule (with_rule (with_rule (with_rule (with_rule (with_rule
-    (new_app (codes "nbrun"))
+-- the options for the tables of a map that doubles, for its seats and for its stripes
+abbrev pub with_map : App → App
+with_map app =
+    with_rule (with_rule (with_rule (with_rule app
     (number_rule (codes "bits") 2 12 (codes "4")))
     (number_rule (codes "generations") 1 8 (codes "4")))
     (number_rule (codes "seats") 1 8 (codes "1")))
-    (number_rule (codes "stripes") 1 8 (codes "1")))
+    (number_rule (codes "stripes") 1 8 (codes "1"))
+
+-- the options for how a map grows, and for its tables one by one
+abbrev pub with_growth : App → App
+with_growth app =
+    with_rule (with_rule (with_rule app
     (number_rule (codes "reprobes") 1 4294967295 (codes "4294967295")))
     (number_rule (codes "chunk") 4 1024 (codes "8")))
     (option_rule (codes "plan"))
+
+-- the command line of nbrun
+abbrev pub nbrun : App
+nbrun = with_growth (with_map (new_app (codes "nbrun")))
 
 -- ---- what a text says
 

@@ -31,6 +31,8 @@ ghost use Rattle.nb_script.specs.Options.{
   plan_asked,
   plan_of_text,
   tuned_plan,
+  with_growth,
+  with_map,
 };
 
 use crate::help;
@@ -104,13 +106,28 @@ fn number_option<'a>(
 fn command<'a>(alloc: Global) -> Result<Command<'a>, AllocError>
     ensures { IfOk result (λ command. app_of command ≡ nbrun) }
 {
-    Command::new(alloc, "nbrun")
-        .after_help(help::SCRIPTS)
-        .about("Runs a script from standard input on a map that all workers share")
+    let command = Command::new(alloc, "nbrun").after_help(help::SCRIPTS).about(
+        "Runs a script from standard input on a map that all workers share",
+    );
+    with_growth(alloc, with_map(alloc, command)?)
+}
+
+/// The command with the options for a map whose tables double.
+fn with_map<'a>(alloc: Global, command: Command<'a>) -> Result<Command<'a>, AllocError>
+    ensures { IfOk result (λ with. app_of with ≡ with_map (app_of command.entry)) }
+{
+    command
         .arg(number_option(alloc, "bits", "B", help::BITS, (2, 12), "4"))?
         .arg(number_option(alloc, "generations", "G", help::GENERATIONS, (1, 8), "4"))?
         .arg(number_option(alloc, "seats", "S", help::SEATS, (1, 8), "1"))?
-        .arg(number_option(alloc, "stripes", "P", help::STRIPES, (1, 8), "1"))?
+        .arg(number_option(alloc, "stripes", "P", help::STRIPES, (1, 8), "1"))
+}
+
+/// The command with the options for how a map grows, and for its tables one by one.
+fn with_growth<'a>(alloc: Global, command: Command<'a>) -> Result<Command<'a>, AllocError>
+    ensures { IfOk result (λ with. app_of with ≡ with_growth (app_of command.entry)) }
+{
+    command
         .arg(number_option(
             alloc,
             "reprobes",

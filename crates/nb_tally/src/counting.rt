@@ -1,10 +1,11 @@
 //! Counting: workers that share an input and a map.
-ghost use Rattle.std.specs.Prelude.{◌≡◌, ℕ, IfOk, OnOk, Option};
+ghost use Rattle.std.specs.Prelude.{◌≡◌, ℕ, IfErr, IfOk, OnOk, Option};
 ghost use Rattle.nb_core.specs.declared.calls.Call.TheVariants as call;
 ghost use Rattle.nb_core.specs.declared.calls.Change.TheVariants as change;
 ghost use Rattle.nb_core.specs.declared.calls.Want.TheVariants as want;
+ghost use Rattle.nb_lines.specs.declared.faults.ProgramFault.TheVariants as fault;
 ghost use Rattle.nb_map.specs.Logs.{HasFound};
-ghost use Rattle.nb_tally.specs.Numbers.{HasCountedAll};
+ghost use Rattle.nb_tally.specs.Numbers.{HasCountedAll, HasNotCounted};
 
 use crate::options::Options;
 use nb_core::{Key, MAX_SEATS, Num};
@@ -105,6 +106,8 @@ fn count_one<R: Wait>(rt: &R, handle: &mut Handle, key: Key) -> Result<(), Stop>
     ensures counted { OnOk result ((before : Option ℕ)
         × HasFound (call.Write key want.Any (change.Add 1)) handle.old.seat handle.new.seat
         before) }
+    ensures refused { IfErr result (HasNotCounted handle.old.map key handle.old.seat
+        handle.new.seat) }
 {
     match handle.add(rt, key, Num::from(1_u32)) {
         Ok(_) => Ok(()),
@@ -116,7 +119,8 @@ fn count_one<R: Wait>(rt: &R, handle: &mut Handle, key: Key) -> Result<(), Stop>
 /// All counts, by a walk over the map, and the handle. No other handle writes any more, so it shows all
 /// of it.
 fn counts_of(alloc: Global, handle: Handle) -> Result<(Vec<Count>, Handle), ProgramFault>
-    ensures { IfOk result (λ done. HasCountedAll handle done.1 done.0.items) }
+    ensures counted { IfOk result (λ done. HasCountedAll handle done.1 done.0.items) }
+    ensures error { IfErr result (λ told. told ≡ fault.OutOfMemory) }
 {
     let mut counts = Vec::new(alloc);
     let mut walk = handle.walk();

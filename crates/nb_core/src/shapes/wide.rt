@@ -3,7 +3,7 @@ ghost use Rattle.std.specs.Prelude.{◌≡◌, ◌≤◌, All, length};
 ghost use Rattle.nb_core.specs.declared.shapes.TheConstants.{MAX_EXPONENT, MAX_GENERATIONS};
 ghost use Rattle.nb_core.specs.Plans.{checked_seats, checked_stripes, checked_tables, slots_in};
 
-use super::{MAX_EXPONENT, MAX_GENERATIONS, MAX_SEATS, MAX_SLOTS, MAX_STRIPES, Shape, ShapeFault};
+use super::{MAX_EXPONENT, MAX_SEATS, MAX_SLOTS, MAX_STRIPES, Shape, ShapeFault, check_exponents};
 
 impl Shape {
     /// A table of `2^e` slots for each exponent: 1 to 16 exponents from 2 to 28, none below the one
@@ -18,15 +18,7 @@ impl Shape {
     pub fn of_tables(exponents: &[u32]) -> Result<Shape, ShapeFault>
         ensures { result ≡ checked_tables exponents.now }
     {
-        if !(1..=MAX_GENERATIONS).contains(&exponents.len()) {
-            return Err(ShapeFault::Generations);
-        }
-        if !exponents.iter().all(|e| (2..=MAX_EXPONENT).contains(e)) {
-            return Err(ShapeFault::Bits);
-        }
-        if !exponents.is_sorted() {
-            return Err(ShapeFault::Plan);
-        }
+        check_exponents(exponents, MAX_EXPONENT)?;
         if slots_of(exponents) > MAX_SLOTS {
             return Err(ShapeFault::Slots);
         }
