@@ -6,11 +6,10 @@ use Rattle.std.proofs.lemmas.List.{length-map, length-reverse, map-append, rever
 use Rattle.std.proofs.lemmas.List.Elements.{All-append, All-cons, All-head, All-nil, All-push, All-tail, All-weaker, Contains-append_left, Contains-append_right}
 use Rattle.nb_core.specs.Plans.{Plan}
 use Rattle.nb_map.proofs.Theorems.{asks_add_up, logs_add_up}
-use Rattle.nb_map.specs.Bulk.{read_as}
+use Rattle.nb_map.specs.Bulk.{HasGotMany, read_as, reads_of}
 use Rattle.nb_map.specs.Entries.{IsRead}
 use Rattle.nb_map.specs.Handles.{HandleOf, IsSameMap, IsWhole, KeepsRest, all_seats, handle_on, seats_of}
 use Rattle.nb_map.specs.Maps.{IsMine, MapOf, SeatOf}
-use Rattle.nb_map.specs.Promises.{HasGot}
 use Rattle.nb_texts.specs.Claims.{HasClaimedBy}
 use Rattle.nb_texts.specs.Clues.{AreCluesTo, ArePartedFrom, HasOnlyLooked, HaveOnlyLooked, IsClueTo}
 use Rattle.nb_texts.specs.Entering.{HasEntered, HasNoRoomFor}
@@ -62,19 +61,26 @@ looked-none handle mine = record {
   claims = λ earlier asked. asked;
 }
 
--- one that has read a key,
-pub looked-once :
-    (before after : HandleOf) (key : ℕ) (found : Option ℕ)
-    → HasGot before.map key before.seat after.seat found → KeepsRest before after
+-- one that has read keys,
+reads-are : (keys : List ℕ) (found : List (Option ℕ)) → All IsRead (reads_of keys found)
+reads-are [] found = All-nil IsRead
+reads-are (key ∷ keys) [] = All-nil IsRead
+reads-are (key ∷ keys) (number ∷ found) =
+    All-append IsRead (reads_of keys found) (read_as key number ∷ []) (reads-are keys found)
+    (All-cons IsRead (read_as key number) [] (key, number, refl) (All-nil IsRead))
+
+pub looked-many :
+    (before after : HandleOf) (keys : List ℕ) (found : List (Option ℕ))
+    → HasGotMany before.map keys before.seat after.seat found → KeepsRest before after
     → HasOnlyLooked before after
-looked-once before after key found got rest = record {
+looked-many before after keys found got rest = record {
   rest = rest;
-  made = read_as key found ∷ [];
-  reads = All-cons IsRead (read_as key found) [] (key, found, refl) (All-nil IsRead);
+  made = reads_of keys found;
+  reads = reads-are keys found;
   logged = got.replied;
   claims = λ earlier asked.
       asks_add_up.more got.own.chain.plan (λ k filled. filled) (λ is. absurd (let wrong : false ≡ true = is in cc)) asked
-      got.worked.steps;
+      (got.worked 0).steps;
 }
 
 -- and one that has gone on
@@ -208,6 +214,21 @@ clues-more hashing texts lines left next clues clues' line clue so_far split pus
   right =
       subst (AreCluesTo hashing texts (so_far.done ++ line ∷ [])) (sym pushed)
       (zip-push (IsClueTo hashing texts) so_far.done clues line clue so_far.right right);
+}
+
+-- clues to the lines of the next piece
+pub clues-further :
+    (hashing : Hashing) (texts lines left piece next : List (List ℕ)) (clues more clues' : List Clue)
+    → AreCluesSoFar hashing texts lines left clues → left ≡ piece ++ next → clues' ≡ clues ++ more
+    → AreCluesTo hashing texts piece more → AreCluesSoFar hashing texts lines next clues'
+clues-further hashing texts lines left piece next clues more clues' so_far split pushed right = record {
+  done = so_far.done ++ piece;
+  are =
+      so_far.are ∙ ap (λ left. so_far.done ++ left) split
+      ∙ sym (append_assoc so_far.done piece next);
+  right =
+      subst (AreCluesTo hashing texts (so_far.done ++ piece)) (sym pushed)
+      (zip-append (IsClueTo hashing texts) so_far.done clues piece more so_far.right right);
 }
 
 pub clues-all :

@@ -1,10 +1,10 @@
 -- An input that is read piece by piece, and cut behind a newline.
-use Rattle.std.proofs.Common.{◌≡◌, ◌≢◌, ◌∙◌, ◌+◌, ◌-◌, ◌<◌, ◌≤◌, ◌==◌, ℕ, suc, Bool, true, false, cond, List, [], ◌∷◌, ◌++◌, None, Option, Some, IfSome, ap, append-nil, append_assoc, arith, drop, inl, length, length-append, length-drop, length-take, refl, slice_index, subst, sym, take}
+use Rattle.std.proofs.Common.{◌≡◌, ◌≢◌, ◌∙◌, ◌+◌, ◌-◌, ◌<◌, ◌≤◌, ◌==◌, ℕ, suc, Bool, true, false, cond, List, [], ◌∷◌, ◌++◌, None, Option, Some, IfSome, ap, append-nil, append_assoc, arith, drop, inl, inr, length, length-append, length-drop, length-take, refl, slice_index, subst, sym, take}
 use Rattle.std.proofs.lemmas.Bool.{eq-eqb, ne_eqb}
 use Rattle.std.proofs.lemmas.List.{drop-drop, get_or-drop, get_or-take, take-append-drop}
 use Rattle.std.proofs.lemmas.List.Elements.{All-append, All-from_get_or}
 use Rattle.std.proofs.lemmas.List.Sums.{sum_by-cons}
-use Rattle.std.specs.Prelude.{count_by}
+use Rattle.std.specs.Prelude.{◌⊎◌, count_by}
 use Rattle.std.specs.Bool.{OnTrue}
 use Rattle.std.specs.Io.KnownBytes.{Consumes, IsAtEnd, Keeps}
 use Rattle.nb_texts.specs.Lines.{lines_in, onto}
@@ -309,3 +309,17 @@ more-done ahead known now next before old block rest read one on = (
       (read-on known now next before old block on.part rest read on.took on.kept) on.ends.1,
   subst IsInOneLine (sym on.kept) (All-append (λ byte. byte ≢ 10) old on.part one on.ends.0),
 )
+
+-- ---- a text in two
+
+-- what is behind a cut is shorter than a text that has something
+pub cut-shorter :
+    (at : ℕ) (text front behind : List ℕ) → IsCutBehind at text front behind → 0 < length text
+    → length behind < length text
+cut-shorter at text front behind cut some = go cut.cut
+  where
+    go : (drop at text ≡ cut.line ++ 10 ∷ behind) ⊎ ((drop at text ≡ cut.line) × (behind ≡ []))
+        → length behind < length text
+    go (inl is) =
+        omega (arith, ap length is, length-drop at text, length-append cut.line (10 ∷ behind))
+    go (inr is) = omega (arith, ap length is.1, some)

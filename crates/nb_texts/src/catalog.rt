@@ -369,15 +369,11 @@ fn renew(alloc: Global, handle: &mut Handle, shape: Shape) -> Result<(), Program
     }
 }
 
-/// How many readers look up the lines of so many bytes. One alone does no good: whoever enters the
-/// lines finds them as fast.
+/// How many readers look up the lines of so many bytes.
 fn readers_for(bytes: usize, workers: usize) -> usize
     ensures { result ≤ min workers MOST_READERS }
 {
-    match workers.min(bytes / WORTH).min(MOST_READERS) {
-        0 | 1 => 0,
-        readers => readers,
-    }
+    workers.min(bytes / WORTH).min(MOST_READERS)
 }
 
 /// So many handles for readers, or fewer, each with a seat out of the reserve.

@@ -7,11 +7,15 @@ ghost use Rattle.nb_texts.specs.Lines.{lines_in};
 use crate::hashing::{Hashing, key_after};
 use crate::lines::{split_line, split_text};
 use crate::texts::Texts;
-use nb_core::OutOfMemory;
+use nb_core::{Key, Num, OutOfMemory};
 use nb_map::Handle;
 use std::alloc::Global;
 use std::thread;
 use std::thread::Threads;
+
+/// How many bytes of lines are looked up together: all their keys before a text is compared, so that
+/// the memory answers many loads at a time.
+const TOGETHER: usize = 1 << 13;
 
 /// What is known of a line before it is entered.
 #[derive(Clone, Copy)]
@@ -126,24 +130,72 @@ fn looked_up(
     let mut clues = Vec::new(alloc);
     let mut rest = text;
     while !rest.is_empty() {
+        let (piece, behind) = split_text(rest, TOGETHER.min(rest.len()));
+        let found = found_at(alloc, hashing, piece, reader)?;
+        let more = clues_by(alloc, texts, hashing, piece, found.as_slice())?;
+        clues.extend_from_slice(more.as_slice())?;
+        rest = behind;
+    }
+    Ok(clues)
+}
+
+/// What the reader finds at the first key for each line.
+fn found_at(
+    alloc: Global,
+    hashing: Hashing,
+    text: &[u8],
+    reader: &mut Handle,
+) -> Result<Vec<Option<Num>>, OutOfMemory>
+    ensures { HasOnlyLooked reader.old reader.new }
+{
+    reader.known();
+    let keys = keys_of(alloc, hashing, text)?;
+    let mut found = vec![in alloc; None; keys.len()]?;
+    reader.get_many(keys.as_slice(), found.as_mut_slice());
+    Ok(found)
+}
+
+/// The first key for each line. Where a key is another one, its line just isn't found.
+fn keys_of(alloc: Global, hashing: Hashing, text: &[u8]) -> Result<Vec<Key>, OutOfMemory> {
+    let mut keys = Vec::new(alloc);
+    let mut rest = text;
+    while !rest.is_empty() {
         let (line, next) = split_line(rest);
-        clues.push(clue_to(texts, hashing, reader, line))?;
+        keys.push(key_after(hashing.hash_of(line), 0))?;
+        rest = next;
+    }
+    Ok(keys)
+}
+
+/// A clue to each line, for which these numbers were found, one after another.
+fn clues_by(
+    alloc: Global,
+    texts: &Texts,
+    hashing: Hashing,
+    text: &[u8],
+    found: &[Option<Num>],
+) -> Result<Vec<Clue>, OutOfMemory>
+    ensures { IfOk result (λ clues. AreCluesTo hashing texts.now (lines_in text.now) clues.items) }
+{
+    let mut clues = Vec::new(alloc);
+    let mut rest = text;
+    while !rest.is_empty() {
+        let (line, next) = split_line(rest);
+        clues.push(clue_by(texts, hashing, line, found.get(clues.len())))?;
         rest = next;
     }
     Ok(clues)
 }
 
-/// A clue to a line.
-fn clue_to(texts: &Texts, hashing: Hashing, reader: &mut Handle, line: &[u8]) -> Clue
-    ensures clue { IsClueTo hashing texts.now line.now result }
-    ensures looked { HasOnlyLooked reader.old reader.new }
+/// A clue to a line, for which this number was found.
+fn clue_by(texts: &Texts, hashing: Hashing, line: &[u8], found: Option<&Option<Num>>) -> Clue
+    ensures { IsClueTo hashing texts.now line.now result }
 {
-    let hash = hashing.hash_of(line);
-    if let Some(place) = reader.get(key_after(hash, 0)) {
+    if let Some(Some(place)) = found {
         let place = place.get() as usize;
         if texts.is_at(place, line) {
             return Clue::Place(place);
         }
     }
-    Clue::Hash(hash)
+    Clue::Hash(hashing.hash_of(line))
 }
