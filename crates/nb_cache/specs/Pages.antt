@@ -105,8 +105,9 @@ abbrev pub HasFailedPut :
 HasFailedPut m place name text line before after told =
     ((told ≡ fault.OutOfMemory) × (after ≡ before))
     ⊎ HasRefusedText m place name text line before after told
-    ⊎ ((told ≡ fault.Unshown)
-    × (stored : Stored Page) × HasPutText m place name text line before after stored)
+    ⊎ ((told ≡ fault.Unshown) × (stored : Stored Page)
+    × HasPutText m place name text line before after stored
+    × (number : ℕ) × (stored.before ≡ Some number))
 
 -- what a line asks for has failed at the place, for the reason that is told
 abbrev pub IsFailed :

@@ -4,7 +4,7 @@ ghost use Rattle.nb_lines.specs.declared.faults.ProgramFault.TheVariants as faul
 ghost use Rattle.nb_long.specs.Handles.{KeepsRest};
 ghost use Rattle.nb_long.specs.Promises.{HasGotValue};
 ghost use Rattle.nb_long.specs.Typed.{IsValueShown};
-ghost use Rattle.nb_cache.specs.Pages.{HasDropped, HasFailedGet, HasFailedPut, HasPutText, IsUnshownAt, text_found, refusal_told};
+ghost use Rattle.nb_cache.specs.Pages.{HasDropped, HasFailedGet, HasFailedPut, HasPutText, IsUnshownAt, refusal_told, text_found};
 ghost use Rattle.nb_cache.specs.Replies.{reply_line};
 
 use crate::pages::{Page, page_of};

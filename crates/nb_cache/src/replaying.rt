@@ -2,7 +2,7 @@
 ghost use Rattle.std.specs.Prelude.{◌≡◌, ◌+◌, ◌%◌, ◌^◌, ℕ, IfErr, IfOk};
 ghost use Rattle.nb_lines.specs.Keys.{number_at};
 ghost use Rattle.nb_long.specs.Handles.{IsWhole, KeepsRest};
-ghost use Rattle.nb_cache.specs.Pages.{IsFailed, IsCallFault, IsDone};
+ghost use Rattle.nb_cache.specs.Pages.{IsCallFault, IsDone, IsFailed};
 
 use crate::calls::{Counts, Worker, get, put, put_too_large};
 use crate::options::Plan;

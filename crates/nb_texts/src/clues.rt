@@ -41,29 +41,9 @@ pub(crate) fn found_by<R: Threads + Sync>(
     ensures looked { HaveOnlyLooked readers.old readers.new }
 {
     if readers.is_empty() {
-        return hashes_of(alloc, texts, hashing, text);
+        return clues_by(alloc, texts, hashing, text, &[]);
     }
     found_by_all(rt, alloc, texts, hashing, text, readers)
-}
-
-/// The hash of each line.
-fn hashes_of(
-    alloc: Global,
-    texts: &Texts,
-    hashing: Hashing,
-    text: &[u8],
-) -> Result<Vec<Clue>, OutOfMemory>
-    ensures { IfOk result (λ clues. AreCluesTo hashing texts.now (lines_in text.now) clues.items) }
-{
-    let _ = texts;
-    let mut clues = Vec::new(alloc);
-    let mut rest = text;
-    while !rest.is_empty() {
-        let (line, next) = split_line(rest);
-        clues.push(Clue::Hash(hashing.hash_of(line)))?;
-        rest = next;
-    }
-    Ok(clues)
 }
 
 /// A clue to each line, by all readers: each is a thread, with a piece of the text.
@@ -167,7 +147,8 @@ fn keys_of(alloc: Global, hashing: Hashing, text: &[u8]) -> Result<Vec<Key>, Out
     Ok(keys)
 }
 
-/// A clue to each line, for which these numbers were found, one after another.
+/// A clue to each line, for which these numbers were found, one after another: its hash where there is
+/// no number, or another line at its place.
 fn clues_by(
     alloc: Global,
     texts: &Texts,

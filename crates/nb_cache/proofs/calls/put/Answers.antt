@@ -31,4 +31,6 @@ returns-in_err-before-clause-errors g c =
       put-text c.args.handle.now.map c.args.place c.args.key.name.now c.args.text.now
           c.args.worker.now.line c.in_ok-page.page c.args.handle.now.seat c.put.new.self.seat
           c.in-Ok.stored c.in_ok-page.ensures c.in-Ok.ensures.wrote,
+      c.in_err-before.ensures.error.1,
+      c.in_err-before.ensures.error.2,
     )))
