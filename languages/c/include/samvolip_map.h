@@ -45,14 +45,28 @@
  * with SAMVOLIP_E_NESTED. Else it may read, and change the number of a key that is there, if its
  * stack has 8 KiB to spare. All other calls, a removal among them, and a first call of a thread may
  * take memory or wait for a thread that does; so a handler that may interrupt malloc or free doesn't
- * make them. A handler neither opens, frees nor leaves a map, and ends no walk. No thread is
- * cancelled in the middle of a call.
+ * make them. In a program that forks such a handler only reads: a fork stops writes and waits for
+ * malloc. A handler neither opens, frees nor leaves a map, ends no walk, and doesn't jump out of a
+ * call that it interrupted. A thread isn't cancelled asynchronously in the middle of a call; calls
+ * are no cancellation points.
  *
  * Forks. The child of a fork has a map of its own, as the other was between two calls, and may call
  * it. Walks of other threads go on in the parent alone; what they hold is the child's for good.
  * Make no fork in the middle of a call, as a handler could. A fork waits for calls that are under
- * way: a thread that has a lock which a fork handler of the program takes makes no call, unless that
+ * way, and for renewals, of all maps; then it stops writes of all maps for a moment, and reads go
+ * on: a thread that has a lock which a fork handler of the program takes makes no call, unless that
  * handler was registered after the first map was opened. The child of a raw clone makes no call.
+ *
+ * Filters of system calls. A process that may not call membarrier when it opens its first map has
+ * maps whose calls take longer. Where it is refused later, the next renewal, exact size, list,
+ * clear, fork or look for objects that can be freed says so on standard error and ends the process
+ * by abort: calls that are under way count on it. So a filter comes before the first map, or allows
+ * membarrier.
+ *
+ * Plugins. The archive isn't unloaded from a process whose threads have called a map: a shared
+ * object with the archive in it is linked by -Wl,-z,nodelete, as libsamvolip.so is. Each copy of the
+ * library takes some of the static thread-local storage that the C library keeps for shared objects
+ * which are loaded later: COPIES copies fit.
  *
  * Pointers are not NULL, but for `options`, `before`, `there` and `visit`.
  */
@@ -67,8 +81,10 @@ extern "C" {
 
 /* Why a call is refused, beside the codes of samvolip.h. */
 enum samvolip_map_code {
-    SAMVOLIP_E_NESTED = -22, /* in the middle of a call of its own thread: by a signal handler */
-    SAMVOLIP_E_OPTIONS = -23 /* an option that is out of its range */
+    SAMVOLIP_E_NESTED = -22,     /* in the middle of a call of its own thread: by a signal handler */
+    SAMVOLIP_E_OPTIONS = -23,    /* an option that is out of its range */
+    SAMVOLIP_E_WOULD_WAIT = -24, /* a call that doesn't wait would have to */
+    SAMVOLIP_E_MAY_SCAN = -25    /* the same, since it may have to look at all slots of a table */
 };
 
 /* What becomes of a key before it is looked for. */
@@ -84,7 +100,9 @@ enum samvolip_keys {
 /* How a map is opened. 0 stands for the default, which is told last. */
 typedef struct samvolip_map_options {
     uint64_t room;    /* for how many keys there is room at first, and at least: 1000 */
-    uint64_t memory;  /* how many bytes the tables take at most, with the new ones of renewals: any */
+    uint64_t memory;  /* how many bytes the tables take at most, with the new ones of renewals: any;
+                         at least twice those of the first table, which has 16 bytes for each slot,
+                         and 2 to the power of 5 or more slots, three for every two keys of `room` */
     uint32_t growth;  /* a renewal makes room for so many times the keys that there are, 2 to 64: 4;
                          it makes twice as much from 2,000 keys on, until the map is in parts, but
                          not by hand */
@@ -194,7 +212,7 @@ int samvolip_map_update(samvolip_map *map, uint64_t key, samvolip_updater *updat
 
 /* ---- the whole map ------------------------------------------------------------------------- */
 
-/* How many keys there are. Exact: writes wait for some microseconds. */
+/* How many keys there are. Exact: it waits for renewals that are under way, and then writes wait for some microseconds. */
 int samvolip_map_size(samvolip_map *map, uint64_t *size);
 
 /* About how many: a guess while others write, and exact while nobody does. A load for each of
@@ -257,6 +275,11 @@ int64_t samvolip_map_fetch_min_word(samvolip_map *map, uint64_t key, uint64_t nu
 int64_t samvolip_map_add_word(samvolip_map *map, uint64_t key, uint64_t number);
 int64_t samvolip_map_replace_word(samvolip_map *map, uint64_t key, uint64_t number);
 int64_t samvolip_map_remove_word(samvolip_map *map, uint64_t key);
+/* A get for who holds others up meanwhile, such as a virtual machine that waits for its threads. It waits for nobody, and doesn't look
+   at many slots: else it is E_WOULD_WAIT, or E_MAY_SCAN where `memory` is bounded or a renewal was refused. Then nothing was done, and
+   samvolip_map_get_word is the call to make. */
+int64_t samvolip_map_try_get_word(samvolip_map *map, uint64_t key);
+
 int64_t samvolip_map_size_word(samvolip_map *map);
 int64_t samvolip_map_size_estimate_word(samvolip_map *map);
 
@@ -269,6 +292,9 @@ int64_t samvolip_map_put_many(samvolip_map *map, const uint64_t *keys, const uin
 int64_t samvolip_map_add_many(samvolip_map *map, const uint64_t *keys, const uint64_t *numbers, uint64_t count);
 int64_t samvolip_map_get_many(samvolip_map *map, const uint64_t *keys, uint64_t *numbers, uint64_t count, uint64_t other);
 
+/* samvolip_map_get_many by gets as samvolip_map_try_get_word makes them: it stops before one that would wait or may take long, too. */
+int64_t samvolip_map_try_get_many(samvolip_map *map, const uint64_t *keys, uint64_t *numbers, uint64_t count, uint64_t other);
+
 /* ------------------------------------------------------------------------------------------- */
 
 /* What a code means, for people. */
@@ -277,6 +303,8 @@ static inline const char *samvolip_map_strerror(int code)
     switch (code) {
     case SAMVOLIP_E_NESTED: return "in the middle of a call of its own thread";
     case SAMVOLIP_E_OPTIONS: return "an option out of range";
+    case SAMVOLIP_E_WOULD_WAIT: return "it would have to wait";
+    case SAMVOLIP_E_MAY_SCAN: return "it may have to look at all slots";
     default: return samvolip_strerror(code);
     }
 }

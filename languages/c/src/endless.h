@@ -29,6 +29,7 @@
 #define LIKELY(x) __builtin_expect(!!(x), 1)
 #define UNLIKELY(x) __builtin_expect(!!(x), 0)
 #define COLD __attribute__((cold, noinline))
+#define PER_THREAD _Thread_local __attribute__((tls_model("initial-exec")))
 
 /* Place 0 is of the one part of a map that isn't divided, and the others are of the parts of one that is. */
 enum { PARTS = 1 << PART_BITS, PLACES = 1 + PARTS };
@@ -43,7 +44,10 @@ enum { AGAIN = 2 };   /* beside the codes of a call: it is to be made again */
 /* A gate that is open is the map's id. FENCED is open where the system has no membarrier. A place that has no core is CLOSED. */
 enum gate { FENCED = 1, READS_ONLY, CLOSED, FIRST_ID };
 enum change { COMES, GOES, STAYS }; /* a key, by a write */
-enum busy { REST, READS, WRITES, WAITS }; /* a busy word is one of these plus the part's address; WAITS is of no part */
+
+/* A busy word is READS or WRITES plus the part's address, or one of the others, which are of no part: at rest, in the middle of a call that
+   is in no core, and at rest in a thread whose calls all begin slowly. */
+enum busy { REST, READS, WRITES, WAITS, RESTS_SLOWLY };
 
 /* A proved map of one table. */
 typedef struct core {
@@ -96,6 +100,7 @@ struct samvolip_map {
     uint64_t mixes_below;      /* which keys are mixed: all, or none */
     mixing mixing;
     atomic_bool is_divided;    /* it has PARTS parts */
+    atomic_bool may_fill;      /* memory is bounded, or was refused: so a table may get full, and a read in it look at all slots */
     uint32_t cell;
     _Alignas(128) part parts[PLACES];
     _Alignas(128) pthread_mutex_t lock;
@@ -129,23 +134,30 @@ struct samvolip_map_walk {
 
 #pragma GCC visibility push(hidden)
 
-/* What a thread has. */
-extern _Thread_local struct thread {
-    _Atomic(uintptr_t) busy; /* REST, or in the middle of a call; WAITS: in one that is in no core */
+/* What a thread has. Others look at its busy word, at times when it has ended without a word: in the last round of its keys' destructors.
+   So it lies in a block that is never unmapped, which the next thread gets. A thread that has no block, since it ends or there is no memory,
+   has the first two fields alone, and no lane of its own. */
+struct thread {
+    _Atomic(uintptr_t) busy;
     lane *shared;            /* the lane that it shares, during a call */
-    bool is_over;            /* it ends: it gets no lane any more */
     uint64_t ids[CELLS];     /* of which map it knows the lane */
+    uint16_t seats[CELLS];   /* and how many bytes its seat is behind the first one of a core */
     uint8_t lanes[CELLS];
-} here __attribute__((tls_model("initial-exec")));
+    struct thread *after;    /* among all blocks */
+    struct thread *next;     /* among those that no thread has */
+};
+extern PER_THREAD struct thread *_Atomic here;
 
 /* lanes.c */
-extern pthread_mutex_t all_lock; /* is locked before a map's lock */
-void begin_all(void);
+bool has_begun(void);
+bool go_inside(void);
+void go_outside(void);
 void enlist(samvolip_map *map);
 void delist(samvolip_map *map);
-unsigned find_lane(const samvolip_map *map, const struct thread *owner);
+unsigned own_lane(const samvolip_map *map);
 part *enter_slowly(samvolip_map *map, unsigned what, unsigned share);
 void rest_lane(void);
+void leave(void);
 
 /* gate.c */
 void begin_gate(void);
@@ -161,6 +173,7 @@ void end_alone(samvolip_map *map, range places);
 
 /* renewal.c */
 extern const uint64_t MOST_ROOM;
+uint32_t first_exponent(const samvolip_map_options *options);
 void free_core(const samvolip_map *map, core *one);
 void leave_cores(samvolip_map *map, core **cores, bool are_over);
 uint64_t keys_in(const samvolip_map *map, range places);
@@ -273,37 +286,33 @@ static inline void unlock(samvolip_map *map) { pthread_mutex_unlock(&map->lock);
 
 static inline uintptr_t busy_word(const part *in, unsigned what) { return (uintptr_t)in + what; }
 
-static inline bool is_inside(void) { return UNLIKELY(atomic_load_explicit(&here.busy, memory_order_relaxed) != REST); }
-
-/* Marks this thread as in the middle of a call that is in no core, unless it is in another one. */
-static inline bool go_inside(void)
-{
-    if (is_inside())
-        return false;
-    atomic_store_explicit(&here.busy, WAITS, memory_order_relaxed); /* who closes a gate doesn't look for it, but a handler does */
-    atomic_signal_fence(memory_order_seq_cst);
-    return true;
-}
-
-static inline void go_outside(void) { atomic_store_explicit(&here.busy, REST, memory_order_release); }
+static inline struct thread *own(void) { return atomic_load_explicit(&here, memory_order_relaxed); }
 
 /* Begins a call in the common case: by the thread's own lane, if the part's gate is open. Else it is NULL, and the thread isn't
    inside. The busy word comes first: from then on a handler is refused, so that it can't change what the thread knows. */
-static inline samvolip_seat *enter_at_once(samvolip_map *map, part *into, unsigned what)
+static inline samvolip_seat *enter_at_once(samvolip_map *map, struct thread *me, part *into, unsigned what)
 {
-    if (is_inside())
+    if (UNLIKELY(atomic_load_explicit(&me->busy, memory_order_relaxed) != REST))
         return NULL;
-    atomic_store_explicit(&here.busy, busy_word(into, what), memory_order_relaxed);
+    atomic_store_explicit(&me->busy, busy_word(into, what), memory_order_relaxed);
     atomic_signal_fence(memory_order_seq_cst); /* membarrier makes it a full one */
     uint32_t cell = map->cell;
-    if (LIKELY(here.ids[cell] == atomic_load_explicit(&into->gate, memory_order_acquire)))
-        return &into->core->seats[here.lanes[cell]];
-    go_outside();
+    if (LIKELY(me->ids[cell] == atomic_load_explicit(&into->gate, memory_order_acquire)))
+        return (samvolip_seat *)((char *)into->core->seats + me->seats[cell]);
+    atomic_store_explicit(&me->busy, REST, memory_order_release);
     return NULL;
 }
 
+/* Ends a call that began so, in the common case. */
+static inline void leave_at_once(struct thread *me) { atomic_store_explicit(&me->busy, REST, memory_order_release); }
+
 /* During a call: the lane by which it is made, and its seat. */
-static inline lane *used_lane(samvolip_map *map) { return UNLIKELY(here.shared != NULL) ? here.shared : &map->lanes[here.lanes[map->cell]]; }
+static inline lane *used_lane(samvolip_map *map)
+{
+    const struct thread *me = own();
+    return me->shared ? me->shared : &map->lanes[me->lanes[map->cell]];
+}
+
 static inline samvolip_seat *used_seat(samvolip_map *map, const part *in) { return &in->core->seats[used_lane(map) - map->lanes]; }
 
 /* During a write by this lane, after which a key has come or gone: whether it is time to look how full the part is. */
@@ -321,13 +330,6 @@ static inline void take_back(const samvolip_map *map, void *held)
 {
     if (map->take_back)
         map->take_back(held);
-}
-
-static inline void leave(void)
-{
-    if (UNLIKELY(atomic_load_explicit(&here.busy, memory_order_relaxed) == WAITS))
-        rest_lane();
-    go_outside();
 }
 
 #endif

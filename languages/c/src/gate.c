@@ -1,7 +1,9 @@
 /* gate.c - the gates of a map's parts, work that is shared out while they are closed, and who is alone with some parts. */
 #include "endless.h"
+#include <errno.h>
 #include <linux/membarrier.h>
 #include <sched.h>
+#include <stdio.h>
 #include <sys/syscall.h>
 #include <time.h>
 #include <unistd.h>
@@ -18,11 +20,14 @@ void begin_gate(void)
 #endif
 }
 
-/* A full fence in this thread, and in all others that run. Without membarrier calls have their own: they enter slowly. */
+/* A full fence in this thread, and in all others that run. Without membarrier calls have their own: they enter slowly. One that is refused
+   later ends the process, since calls that are under way count on it. */
 void heavy_fence(void)
 {
-    if (has_membarrier && syscall(__NR_membarrier, MEMBARRIER_CMD_PRIVATE_EXPEDITED, 0, 0) != 0)
-        abort();
+    if (!has_membarrier || syscall(__NR_membarrier, MEMBARRIER_CMD_PRIVATE_EXPEDITED, 0, 0) == 0)
+        return;
+    fprintf(stderr, "samvolip: membarrier, which was allowed when the first map was opened, is refused now: %s\n", strerror(errno));
+    abort();
 }
 
 void pause_for(unsigned turn)
@@ -31,8 +36,8 @@ void pause_for(unsigned turn)
         __builtin_ia32_pause();
     else if (turn < 1024)
         sched_yield();
-    else
-        nanosleep(&(struct timespec){0, 50000}, NULL);
+    else /* no point at which the thread may be cancelled, as nanosleep of the C library is */
+        syscall(__NR_nanosleep, &(struct timespec){0, 50000}, NULL);
 }
 
 uint64_t nanoseconds(void)
@@ -57,8 +62,12 @@ static void wait_to_be_told(samvolip_map *map)
     for (unsigned turn = 0; turn < AWAKE && map->told == told; turn++)
         pause_for(turn);
     lock(map);
-    if (map->told == told)
-        pthread_cond_wait(&map->turned, &map->lock);
+    if (map->told != told)
+        return;
+    int before;
+    pthread_setcancelstate(PTHREAD_CANCEL_DISABLE, &before);
+    pthread_cond_wait(&map->turned, &map->lock);
+    pthread_setcancelstate(before, &before);
 }
 
 /* ---- gates --------------------------------------------------------------------------------- */
@@ -196,7 +205,7 @@ bool be_alone(samvolip_map *map, range places, const part *with, uint64_t number
     lock(map);
     bool is = true;
     while ((is = !with || (with->core && with->core->number == number)) && (map->held & set_of(places)))
-        wait_or_help(map, places, find_lane(map, &here));
+        wait_or_help(map, places, own_lane(map));
     if (is)
         map->held |= set_of(places);
     unlock(map);

@@ -27,13 +27,14 @@
         bool divided = is_divided(map); /* then a jump: nobody waits for the key's share */                                          \
         uint64_t inner = inner_once(map, divided, key), found __attribute__((unused));                                               \
         part *into = part_of(map, divided, share_of(inner));                                                                         \
-        samvolip_seat *seat = LIKELY(inner <= SAMVOLIP_KEY_MAX) ? enter_at_once(map, into, what) : NULL;                             \
+        struct thread *me = own();                                                                                                   \
+        samvolip_seat *seat = LIKELY(inner <= SAMVOLIP_KEY_MAX) ? enter_at_once(map, me, into, what) : NULL;                         \
         if (UNLIKELY(!seat))                                                                                                         \
             return name##_slowly words;                                                                                              \
         int code = call;                                                                                                             \
-        bool looks = (change) != STAYS && UNLIKELY(counts_down(map, &map->lanes[here.lanes[map->cell]], into, change));              \
+        bool looks = (change) != STAYS && UNLIKELY(counts_down(map, &map->lanes[me->lanes[map->cell]], into, change));               \
         if (LIKELY((what == READS || code >= 0) && !looks)) {                                                                        \
-            go_outside();                                                                                                            \
+            leave_at_once(me);                                                                                                       \
             return code;                                                                                                             \
         }                                                                                                                            \
         code = end_call(map, into, code, looks);                                                                                     \
@@ -90,6 +91,39 @@ int samvolip_map_update(samvolip_map *map, uint64_t key, samvolip_updater *updat
     return code;
 }
 
+/* A get that is made only if it neither waits nor may take long. */
+static inline int get_at_once(samvolip_map *map, uint64_t key, uint64_t *number)
+{
+    bool divided = is_divided(map);
+    uint64_t inner = inner_once(map, divided, key);
+    part *into = part_of(map, divided, share_of(inner));
+    struct thread *me = own();
+    if (UNLIKELY(atomic_load_explicit(&map->may_fill, memory_order_relaxed)))
+        return SAMVOLIP_E_MAY_SCAN;
+    samvolip_seat *seat = LIKELY(inner <= SAMVOLIP_KEY_MAX) ? enter_at_once(map, me, into, READS) : NULL;
+    if (UNLIKELY(!seat))
+        return SAMVOLIP_E_WOULD_WAIT;
+    int code = samvolip_get(seat, inner, number);
+    leave_at_once(me);
+    return code;
+}
+
+int64_t samvolip_map_try_get_word(samvolip_map *map, uint64_t key)
+{
+    uint64_t number = 0;
+    int code = get_at_once(map, key, &number);
+    return code < 0 ? code : code == SAMVOLIP_PRESENT ? (int64_t)number : SAMVOLIP_NONE;
+}
+
+int64_t samvolip_map_try_get_many(samvolip_map *map, const uint64_t *keys, uint64_t *numbers, uint64_t count, uint64_t other)
+{
+    int64_t made = 0;
+    for (int code; (uint64_t)made < count && (code = get_at_once(map, keys[made], &numbers[made])) >= 0; made++)
+        if (code == SAMVOLIP_ABSENT)
+            numbers[made] = other;
+    return made;
+}
+
 /* ---- beginning and end --------------------------------------------------------------------- */
 
 /* The mixing of a new map. Without a source of secrets it goes by the time and the place. */
@@ -109,6 +143,12 @@ static mixing new_mixing(uint32_t keys, const samvolip_map *map)
     return made;
 }
 
+/* Whether the memory suffices for two tables as a map has at first: else it could neither be cleared nor renewed. */
+static bool is_enough(const samvolip_map_options *read)
+{
+    return read->memory == 0 || read->memory / sizeof(samvolip_entry) / 2 >= slots_of(first_exponent(read));
+}
+
 /* What the options say, with the defaults in place of zeros; whether they are in range. */
 static bool read_options(const samvolip_map_options *given, samvolip_map_options *read)
 {
@@ -117,7 +157,7 @@ static bool read_options(const samvolip_map_options *given, samvolip_map_options
     read->growth = read->growth ? read->growth : 4;
     read->threads = read->threads ? read->threads : 64;
     return read->room <= MOST_ROOM && read->growth >= 2 && read->growth <= 64
-        && read->threads <= SAMVOLIP_MAP_MOST_THREADS && read->keys <= SAMVOLIP_KEYS_AS_THEY_ARE;
+        && read->threads <= SAMVOLIP_MAP_MOST_THREADS && read->keys <= SAMVOLIP_KEYS_AS_THEY_ARE && is_enough(read);
 }
 
 /* A map without a core, whose gates are closed. */
@@ -135,6 +175,7 @@ static samvolip_map *new_map(const samvolip_map_options *options)
     map->cell = map->id % CELLS;
     map->count = count;
     map->options = *options;
+    map->may_fill = options->memory != 0;
     map->mixes_below = is_mixed ? SAMVOLIP_KEY_MAX + 1 : 0;
     map->mixing = new_mixing(options->keys, map);
     for (unsigned place = 0; place < PLACES; place++)
@@ -155,15 +196,13 @@ static void free_map(samvolip_map *map)
 
 int samvolip_map_open_with(uint32_t version, size_t options_size, size_t figures_size, const samvolip_map_options *options, samvolip_map **made)
 {
-    static pthread_once_t once = PTHREAD_ONCE_INIT;
     samvolip_map_options read;
     if (version >> 8 != SAMVOLIP_VERSION >> 8 || version > SAMVOLIP_VERSION || options_size != sizeof read
         || figures_size != sizeof(samvolip_map_figures))
         return SAMVOLIP_E_VERSION;
     if (!read_options(options, &read))
         return SAMVOLIP_E_OPTIONS;
-    pthread_once(&once, begin_all);
-    samvolip_map *map = new_map(&read);
+    samvolip_map *map = has_begun() ? new_map(&read) : NULL;
     if (!map)
         return SAMVOLIP_E_OUT_OF_MEMORY;
     int code = put_empty_cores(map, (range){0, 0});

@@ -166,9 +166,12 @@ static struct large *tray_of(const void *at)
     uintptr_t place = (uintptr_t)at;
     if (place % PAGE != 0)
         return NULL;
-    for (size_t i = 0; i < PLACES; i++)
-        if (atomic_load(&list[i].each) != 0 && place - atomic_load(&list[i].begin) < TRAY)
-            return &list[i];
+    for (size_t i = 0; i < PLACES; i++) {
+        size_t each = atomic_load(&list[i].each);
+        uintptr_t begin = atomic_load(&list[i].begin);
+        if (each != 0 && place - begin < TRAY && atomic_load(&list[i].each) == each && atomic_load(&list[i].begin) == begin)
+            return &list[i]; /* read twice: between the two looks another block may have come to the place of a tray that went */
+    }
     return NULL;
 }
 

@@ -31,7 +31,7 @@ typedef struct batch {
 /* What a thread has of a map. When it ends another one may get it. */
 typedef struct place {
     _Alignas(128) atomic_ullong note; /* what the clock showed when the thread pinned the map; 0: it doesn't */
-    atomic_uint pins;                 /* that lie in one another */
+    atomic_ullong pins;               /* that lie in one another */
     batch *_Atomic open;              /* it has room; NULL: there is none. Is stored after its count, for the child of a fork */
     atomic_ullong retired;            /* how many objects were, by this place */
     const void *_Atomic owner;        /* the thread; NULL: none; the place itself: one that ended and left its pin */
@@ -45,7 +45,6 @@ static _Thread_local struct thread {
     place *volatile places[CELLS];
 } here __attribute__((tls_model("initial-exec")));
 
-static pthread_once_t once = PTHREAD_ONCE_INIT;
 static pthread_mutex_t lock = PTHREAD_MUTEX_INITIALIZER; /* of what all maps have; nobody takes memory with it, nor calls others */
 static objects *maps;
 static uint64_t opened;
@@ -158,7 +157,7 @@ int samvolip_map_pin(samvolip_map *map)
 void samvolip_map_unpin(samvolip_map *map)
 {
     place *mine = own_place(of_map(map));
-    unsigned pins = mine ? atomic_load_explicit(&mine->pins, memory_order_relaxed) : 0;
+    uint64_t pins = mine ? atomic_load_explicit(&mine->pins, memory_order_relaxed) : 0;
     if (UNLIKELY(pins == 0))
         return;
     atomic_store_explicit(&mine->pins, pins - 1, memory_order_relaxed);
@@ -353,15 +352,16 @@ static void after_fork_in_child(void)
     go_outside();
 }
 
-static void begin(void)
+bool objects_begin_all(void)
 {
-    if (pthread_key_create(&at_end, thread_ends) != 0 || pthread_atfork(before_fork, end_locked, after_fork_in_child) != 0)
-        abort();
+    static bool has_key, has_handlers;
+    has_key = has_key || pthread_key_create(&at_end, thread_ends) == 0;
+    has_handlers = has_handlers || (has_key && pthread_atfork(before_fork, end_locked, after_fork_in_child) == 0);
+    return has_handlers;
 }
 
 void objects_begin(objects *of)
 {
-    pthread_once(&once, begin);
     of->clock = 1;
     of->last = &of->first;
     begin_locked();

@@ -18,6 +18,9 @@ typedef struct objects {
 
 #pragma GCC visibility push(hidden)
 
+/* Before the first map is open: whether there is what all of them need. It may be asked again. */
+bool objects_begin_all(void);
+
 /* Of a map that is open now. */
 void objects_begin(objects *of);
 

@@ -220,15 +220,20 @@ static int renew(samvolip_map *map, range places, enum why why, uint64_t asked)
     map->figures.renewals += code >= 0;
     map->figures.refused += code < 0;
     unlock(map);
+    if (code < 0)
+        map->may_fill = true;
     return code;
 }
 
 int renew_by_hand(samvolip_map *map, uint64_t room) { return renew(map, parts_of(map), ASKED, room); }
 
+/* Of the table, or of all those of parts together, that a map has when it is opened or cleared. */
+uint32_t first_exponent(const samvolip_map_options *options) { return exponent_of(with_half(options->room)); }
+
 /* Alone: puts empty cores in the place of these, as large as the options say. */
 int put_empty_cores(samvolip_map *map, range from)
 {
-    uint32_t exponent = exponent_of(with_half(map->options.room));
+    uint32_t exponent = first_exponent(&map->options);
     return put_cores(map, from, parts_for(exponent), exponent, false);
 }
 

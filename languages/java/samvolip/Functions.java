@@ -14,12 +14,15 @@ final class Functions {
     /** What a call answers where there is no number. */
     static final long NONE = Long.MIN_VALUE;
 
+    /** What TRY_GET answers where GET is the call to make, and the virtual machine is to know of it: that may wait, or look at many slots. */
+    static final long WOULD_WAIT = -24, MAY_SCAN = -25;
+
     private static final Class<?> I = int.class, L = long.class;
     static final MethodHandle OPEN = Native.function("samvolip_map_open_with", false, I, I, L, L, L, L);
     static final MethodHandle FREE = Native.function("samvolip_map_free", false, void.class, L);
     static final MethodHandle LEAVE = Native.function("samvolip_map_leave", false, void.class, L);
-    static final MethodHandle GET = Native.function("samvolip_map_get_word", true, L, L, L);
-    static final MethodHandle GET_TELLING = Native.function("samvolip_map_get_word", false, L, L, L);
+    static final MethodHandle TRY_GET = Native.function("samvolip_map_try_get_word", true, L, L, L);
+    static final MethodHandle GET = Native.function("samvolip_map_get_word", false, L, L, L);
     static final MethodHandle PUT = Native.function("samvolip_map_put_word", false, L, L, L, L);
     static final MethodHandle PUT_IF_ABSENT = Native.function("samvolip_map_put_if_absent_word", false, L, L, L, L);
     static final MethodHandle FETCH_MAX = Native.function("samvolip_map_fetch_max_word", false, L, L, L, L);
@@ -33,7 +36,7 @@ final class Functions {
     static final MethodHandle PUT_MANY = Native.function("samvolip_map_put_many", false, L, L, L, L, L);
     static final MethodHandle ADD_MANY = Native.function("samvolip_map_add_many", false, L, L, L, L, L);
     static final MethodHandle SIZE = Native.function("samvolip_map_size_word", false, L, L);
-    static final MethodHandle SIZE_ESTIMATE = Native.function("samvolip_map_size_estimate_word", true, L, L);
+    static final MethodHandle SIZE_ESTIMATE = Native.function("samvolip_map_size_estimate_word", false, L, L);
     static final MethodHandle CLEAR = Native.function("samvolip_map_clear", false, I, L, L, L);
     static final MethodHandle SNAPSHOT = Native.function("samvolip_map_snapshot", false, I, L, L, L, L);
     static final MethodHandle RENEW = Native.function("samvolip_map_renew", false, I, L, L);

@@ -32,7 +32,7 @@ public final class SamvolipMap implements AutoCloseable, Iterable<Entry> {
     private final long at;
     private final Cleaner.Cleanable freed;
     private volatile boolean isClosed;
-    /** Whether its table may come to be full: then a read of a key that isn't there may take long. */
+    /** Whether its table may come to be full, since memory is bounded or was refused: then a read of a key that isn't there may take long. */
     private boolean mayBeFull;
 
     /** What a call does with each key and its number. */
@@ -99,16 +99,10 @@ public final class SamvolipMap implements AutoCloseable, Iterable<Entry> {
         try {
             return made((long) call.invokeExact(at(), key));
         } catch (Throwable thrown) {
-            throw wrong(thrown);
+            throw Functions.wrong(thrown);
         } finally {
             Reference.reachabilityFence(this);
         }
-    }
-
-    /** What a call threw, to be thrown on. */
-    private RuntimeException wrong(Throwable thrown) {
-        if (thrown instanceof Refused refused && refused.code() == Code.E_OUT_OF_MEMORY) mayBeFull = true;
-        return Functions.wrong(thrown);
     }
 
     private static OptionalLong found(long word) {
@@ -120,13 +114,19 @@ public final class SamvolipMap implements AutoCloseable, Iterable<Entry> {
         return found(getOrDefault(key, NONE));
     }
 
+    private long read(long key) throws Throwable {
+        long word = mayBeFull ? Functions.MAY_SCAN : (long) Functions.TRY_GET.invokeExact(at(), key);
+        if (word == Functions.MAY_SCAN) mayBeFull = true;
+        return word == Functions.MAY_SCAN || word == Functions.WOULD_WAIT ? (long) Functions.GET.invokeExact(at(), key) : word;
+    }
+
     /** What is at a key, or another number. */
     public long getOrDefault(long key, long other) {
         try {
-            long word = made(mayBeFull ? (long) Functions.GET_TELLING.invokeExact(at(), key) : (long) Functions.GET.invokeExact(at(), key));
+            long word = made(read(key));
             return word == NONE ? other : word;
         } catch (Throwable thrown) {
-            throw wrong(thrown);
+            throw Functions.wrong(thrown);
         } finally {
             Reference.reachabilityFence(this);
         }
@@ -142,7 +142,7 @@ public final class SamvolipMap implements AutoCloseable, Iterable<Entry> {
         try {
             return found(made((long) Functions.PUT.invokeExact(at(), key, number)));
         } catch (Throwable thrown) {
-            throw wrong(thrown);
+            throw Functions.wrong(thrown);
         } finally {
             Reference.reachabilityFence(this);
         }
@@ -153,7 +153,7 @@ public final class SamvolipMap implements AutoCloseable, Iterable<Entry> {
         try {
             return found(made((long) Functions.PUT_IF_ABSENT.invokeExact(at(), key, number)));
         } catch (Throwable thrown) {
-            throw wrong(thrown);
+            throw Functions.wrong(thrown);
         } finally {
             Reference.reachabilityFence(this);
         }
@@ -164,7 +164,7 @@ public final class SamvolipMap implements AutoCloseable, Iterable<Entry> {
         try {
             return found(made((long) Functions.ADD.invokeExact(at(), key, number)));
         } catch (Throwable thrown) {
-            throw wrong(thrown);
+            throw Functions.wrong(thrown);
         } finally {
             Reference.reachabilityFence(this);
         }
@@ -175,7 +175,7 @@ public final class SamvolipMap implements AutoCloseable, Iterable<Entry> {
         try {
             return found(made((long) Functions.FETCH_MAX.invokeExact(at(), key, number)));
         } catch (Throwable thrown) {
-            throw wrong(thrown);
+            throw Functions.wrong(thrown);
         } finally {
             Reference.reachabilityFence(this);
         }
@@ -186,7 +186,7 @@ public final class SamvolipMap implements AutoCloseable, Iterable<Entry> {
         try {
             return found(made((long) Functions.FETCH_MIN.invokeExact(at(), key, number)));
         } catch (Throwable thrown) {
-            throw wrong(thrown);
+            throw Functions.wrong(thrown);
         } finally {
             Reference.reachabilityFence(this);
         }
@@ -197,7 +197,7 @@ public final class SamvolipMap implements AutoCloseable, Iterable<Entry> {
         try {
             return found(made((long) Functions.REPLACE.invokeExact(at(), key, number)));
         } catch (Throwable thrown) {
-            throw wrong(thrown);
+            throw Functions.wrong(thrown);
         } finally {
             Reference.reachabilityFence(this);
         }
@@ -208,7 +208,7 @@ public final class SamvolipMap implements AutoCloseable, Iterable<Entry> {
         try {
             return made((int) Functions.REPLACE_IF.invokeExact(at(), key, old, number)) == PRESENT;
         } catch (Throwable thrown) {
-            throw wrong(thrown);
+            throw Functions.wrong(thrown);
         } finally {
             Reference.reachabilityFence(this);
         }
@@ -224,7 +224,7 @@ public final class SamvolipMap implements AutoCloseable, Iterable<Entry> {
         try {
             return made((int) Functions.REMOVE_IF.invokeExact(at(), key, number)) == PRESENT;
         } catch (Throwable thrown) {
-            throw wrong(thrown);
+            throw Functions.wrong(thrown);
         } finally {
             Reference.reachabilityFence(this);
         }
@@ -326,7 +326,7 @@ public final class SamvolipMap implements AutoCloseable, Iterable<Entry> {
         try {
             return made((long) call.invokeExact(at()));
         } catch (Throwable thrown) {
-            throw wrong(thrown);
+            throw Functions.wrong(thrown);
         } finally {
             Reference.reachabilityFence(this);
         }
@@ -337,7 +337,7 @@ public final class SamvolipMap implements AutoCloseable, Iterable<Entry> {
         try {
             made((int) Functions.CLEAR.invokeExact(at(), 0L, 0L));
         } catch (Throwable thrown) {
-            throw wrong(thrown);
+            throw Functions.wrong(thrown);
         } finally {
             Reference.reachabilityFence(this);
         }
@@ -355,7 +355,7 @@ public final class SamvolipMap implements AutoCloseable, Iterable<Entry> {
                 Arrays.setAll(entries, i -> entryAt(words + 8 + (long) i * Functions.ENTRY_SIZE));
                 return Arrays.asList(entries);
             } catch (Throwable thrown) {
-                throw wrong(thrown);
+                throw Functions.wrong(thrown);
             } finally {
                 Native.free(words);
                 Reference.reachabilityFence(this);
@@ -429,7 +429,7 @@ public final class SamvolipMap implements AutoCloseable, Iterable<Entry> {
         try {
             made((int) Functions.RENEW.invokeExact(at(), room));
         } catch (Throwable thrown) {
-            throw wrong(thrown);
+            throw Functions.wrong(thrown);
         } finally {
             Reference.reachabilityFence(this);
         }
@@ -444,7 +444,7 @@ public final class SamvolipMap implements AutoCloseable, Iterable<Entry> {
             Arrays.setAll(all, i -> Native.getLong(words + 8L * i));
             return new Figures(all[0], all[1], all[2], all[3], all[4], all[5], all[6], all[7]);
         } catch (Throwable thrown) {
-            throw wrong(thrown);
+            throw Functions.wrong(thrown);
         } finally {
             Native.free(words);
             Reference.reachabilityFence(this);
@@ -456,7 +456,7 @@ public final class SamvolipMap implements AutoCloseable, Iterable<Entry> {
         try {
             Functions.LEAVE.invokeExact(at());
         } catch (Throwable thrown) {
-            throw wrong(thrown);
+            throw Functions.wrong(thrown);
         } finally {
             Reference.reachabilityFence(this);
         }
@@ -464,12 +464,16 @@ public final class SamvolipMap implements AutoCloseable, Iterable<Entry> {
 
     /**
      * Empties the map, which may not be called any more. Other threads may be in the middle of a call: so an empty table of the first room
-     * stays, and goes once nobody has the map any more.
+     * stays, and goes once nobody has the map any more. Where there is no memory for that table, all entries stay as long.
      */
     @Override
     public void close() {
         if (isClosed) return;
-        clear();
+        try {
+            clear();
+        } catch (Refused refused) {
+            if (refused.code() != Code.E_OUT_OF_MEMORY) throw refused;
+        }
         isClosed = true;
     }
 }

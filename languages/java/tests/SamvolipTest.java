@@ -133,10 +133,9 @@ public final class SamvolipTest {
         Options good = new Options();
         Options[] wrong = {
             good.withGrowth(1), good.withGrowth(65), good.withGrowth(-1), good.withThreads(241), good.withThreads(-1), good.withRoom(-1),
-            good.withRoom(1L << 28),
+            good.withRoom(1L << 28), good.withMemory(1000), good.withMemory(2 * 2048 * 16 - 1),
         };
         for (Options options : wrong) expect(refused(() -> new SamvolipMap(options)), Code.E_OPTIONS);
-        expect(refused(() -> new SamvolipMap(good.withMemory(1000))), Code.E_OUT_OF_MEMORY);
         try (SamvolipMap map = new SamvolipMap(good.withRoom(20).withMemory(3 * 512))) { // a table of 32 slots, and one of 64
             expect(refused(() -> {
                 for (long key = 0; key < 100; key++) map.put(key, key);
@@ -146,6 +145,18 @@ public final class SamvolipTest {
             for (long key = 0; key < size; key++) expect(map.get(key), of(key));
             expect(map.figures().refused() > 0);
         }
+        closesWithoutMemory(good.withRoom(100_000).withMemory(2 * 262_144 * 16));
+    }
+
+    /** Where there is no memory for an empty table a map is closed all the same. */
+    private static void closesWithoutMemory(Options options) {
+        SamvolipMap map = new SamvolipMap(options);
+        expect(refused(() -> {
+            for (long key = 0; ; key++) map.put(key, key);
+        }), Code.E_OUT_OF_MEMORY);
+        expect(refused(map::clear), Code.E_OUT_OF_MEMORY);
+        map.close();
+        expect(illegal(map::size), "the map was closed");
     }
 
     /** Batches of no key, of a few and of many parts; and where one of their calls is refused. */

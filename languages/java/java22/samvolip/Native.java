@@ -35,11 +35,11 @@ final class Native {
     /** Whether {@link #getMany} is there. */
     static final boolean TAKES_ARRAYS = true;
 
-    private static final MethodHandle GET_MANY = LINKER.downcallHandle(SymbolLookup.loaderLookup().find("samvolip_map_get_many").orElseThrow(),
+    private static final MethodHandle GET_MANY = LINKER.downcallHandle(SymbolLookup.loaderLookup().find("samvolip_map_try_get_many").orElseThrow(),
         FunctionDescriptor.of(ValueLayout.JAVA_LONG, ValueLayout.JAVA_LONG, ValueLayout.ADDRESS, ValueLayout.ADDRESS, ValueLayout.JAVA_LONG, ValueLayout.JAVA_LONG),
         Linker.Option.critical(true));
 
-    /** C's function of this name, which ends soon, for so many keys from a place on: it reads and writes the arrays where they are. */
+    /** C's samvolip_map_try_get_many for so many keys from a place on: it reads and writes the arrays where they are. */
     static long getMany(long map, long[] keys, long[] numbers, int from, int count, long other) throws Throwable {
         MemorySegment of = MemorySegment.ofArray(keys).asSlice(8L * from), into = MemorySegment.ofArray(numbers).asSlice(8L * from);
         return (long) GET_MANY.invokeExact(map, of, into, (long) count, other);
