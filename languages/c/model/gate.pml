@@ -68,6 +68,7 @@
    the parts are. */
 byte gate[PLACES], held;
 bool divided, locked;
+bool heap; /* malloc's lock, which a thread has that a handler interrupts, and which a fork waits for */
 byte asleep; /* a bit for each who waits for the map's condition */
 byte owner[LANES];     /* 0 if the lane has none, and else 1 + who it is */
 byte lane_busy[LANES]; /* of a lane for all */
@@ -227,14 +228,17 @@ inline give_back() {
 #endif
 }
 
-/* Gets a lane of its own; or goes without, as where no lane is free. */
+/* Gets a lane of its own; or goes without, as where no lane is free, or the lock isn't. */
 inline arrive() {
     atomic {
+#ifdef ARRIVES_BY_LOCK
         !locked ->
+#endif
         drain(me);
         if
-        :: owner[FIRST] == 0 -> mine = FIRST
-        :: OWN > 1 && owner[FIRST] != 0 && owner[FIRST + 1] == 0 -> mine = FIRST + 1
+        :: locked && SHARED > 0
+        :: !locked && owner[FIRST] == 0 -> mine = FIRST
+        :: !locked && OWN > 1 && owner[FIRST] != 0 && owner[FIRST + 1] == 0 -> mine = FIRST + 1
         :: SHARED > 0
         fi;
         if :: mine != 0 -> owner[mine] = 1 + me :: else fi
@@ -294,6 +298,9 @@ proctype thread(byte me) {
 outside:
     if
     :: atomic { read_or_write(); goto asks }
+#ifdef HANDLERS
+    :: atomic { at == 0 && !heap -> heap = true; at = 6; read_or_write(); what = READS; goto asks } /* a handler reads, which interrupted malloc */
+#endif
 #ifndef LANES_ARE_KEPT
     :: atomic { !locked && mine != 0 && at == 0 -> give_back(); goto outside }
 #endif
@@ -362,7 +369,13 @@ back3:  if
     atomic { rest_lane(); used = 0 };
 #endif
     do
+#ifndef READS_WAIT_BY_LOCK
+    :: atomic { what == READS && admits(READS, place_for(share)) -> drain(me); break } /* looks again and again, without the lock */
+#endif
     :: atomic {
+#ifndef READS_WAIT_BY_LOCK
+           what == WRITES &&
+#endif
            !locked ->
            drain(me);
 #ifndef WAITS_AT_THE_OLD_PLACE
@@ -401,6 +414,7 @@ back5:
         :: at == 3 -> goes_on(); inside = true; goto back3
         :: at == 4 -> goes_on(); inside = true; goto back4
         :: at == 5 -> goes_on(); inside = true; goto back5
+        :: at == 6 -> heap = false; at = 0; goto outside
         fi
     };
 over:
@@ -536,21 +550,27 @@ inline count() {
     atomic { !locked -> open_gates(from) }
 }
 
-/* The child has the memory of this step, and none of the other threads: no lane has one of them as its owner any more. It lays the
-   lanes' busy words to rest. */
+/* With the lock it waits for malloc's. The child has the memory of this step, and none of the other threads: no lane has one of them as
+   its owner any more. It lays the lanes' busy words to rest. Reads may be under way, which have changed nothing. */
 inline fork() {
     from = parts_now;
+#ifdef FORK_STOPS_READS
     close_gates(CLOSED);
+#else
+    close_gates(READS_ONLY);
+#endif
+    atomic { !locked -> locked = true };
     atomic {
-        !locked ->
+        !heap ->
         for (t : 0 .. WHOLES - 1) { assert(job[t] == NOTHING && helpers[t] == 0) }
         for (t : 1 .. LANES - 1) {
-            assert(works[t] == REST);
+            assert(works[t] == REST || works[t] == READS);
 #ifdef CHILD_STAYS_BUSY
             assert(lane_busy[t] == REST)
 #endif
         }
         t = 0;
+        locked = false;
         held = 0;
         open_gates(from)
     }

@@ -209,8 +209,26 @@ void leave(void)
     go_outside();
 }
 
+/* Waits until the gate lets a read in, after the moment of an exchange. It takes no lock: its thread may be within malloc, for which a fork
+   waits that has the lock. */
+static void wait_to_read(samvolip_map *map, unsigned share)
+{
+    for (unsigned turn = 0; !admits(part_of(map, is_divided(map), share), READS); turn++)
+        pause_for(turn);
+}
+
+/* Waits until the gate lets a write in, and helps meanwhile by a lane of the thread's own, if it has one. */
+static void wait_to_write(samvolip_map *map, unsigned share, unsigned mine)
+{
+    const part *into;
+    lock(map);
+    while (!admits(into = part_of(map, is_divided(map), share), WRITES))
+        wait_or_help(map, only(place_of(map, into)), mine);
+    unlock(map);
+}
+
 /* Begins a call in the part that has this share, but in the common case; NULL within another call. While the gate doesn't let it in it
-   waits by no lane, and helps if it has one. */
+   waits by no lane. */
 COLD part *enter_slowly(samvolip_map *map, unsigned what, unsigned share)
 {
     if (!go_inside())
@@ -226,10 +244,10 @@ COLD part *enter_slowly(samvolip_map *map, unsigned what, unsigned share)
             return into;
         rest_lane();
         void *held = let_go(map);
-        lock(map);
-        while (!admits(into = part_of(map, is_divided(map), share), what))
-            wait_or_help(map, only(place_of(map, into)), mine);
-        unlock(map);
+        if (what == READS)
+            wait_to_read(map, share);
+        else
+            wait_to_write(map, share, mine);
         take_back(map, held);
     }
 }
