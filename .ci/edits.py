@@ -2,9 +2,8 @@
 takes its place. Those that the gate tries are files of their own, crates/NAME/must-fail/EDIT.edit, with lines 'file:', 'old:' and
 'new:'. The others of a crate are in one file, .ci/more-edits/NAME.edits, where a line 'edit: EDIT' begins each."""
 
-from pathlib import Path
+from sources import CRATES, TOP, text_of  # beside this file
 
-TOP = Path(__file__).resolve().parent.parent
 MORE = TOP / ".ci/more-edits"
 
 
@@ -24,13 +23,13 @@ def changes_of(lines):
 
 def of_the_gate(crate):
     """The edits of a crate that the gate tries, by name."""
-    return {path.stem: changes_of(path.read_text().split("\n")) for path in sorted(TOP.glob(f"crates/{crate}/must-fail/*.edit"))}
+    return {path.stem: changes_of(text_of(path).split("\n")) for path in sorted(CRATES.glob(f"{crate}/must-fail/*.edit"))}
 
 
 def more(crate):
     """The other edits of a crate, by name."""
     path, edits = MORE / f"{crate}.edits", {}
-    for line in path.read_text().split("\n") if path.is_file() else []:
+    for line in text_of(path).split("\n") if path.is_file() else []:
         kind, _, text = line.partition(":")
         if kind == "edit":
             name = text.strip()
@@ -42,6 +41,15 @@ def more(crate):
     return {name: changes_of(lines) for name, lines in edits.items()}
 
 
-def crates():
-    """The crates that have edits."""
-    return sorted({path.parts[-3] for path in TOP.glob("crates/*/must-fail/*.edit")} | {path.stem for path in MORE.glob("*.edits")})
+def made(crate, changes, files=()):
+    """The files of a crate with these changes, each of which applies to what the earlier ones made; or why one doesn't fit."""
+    files = dict(files)
+    for file, old, new in changes:
+        path = CRATES / crate / file
+        if not path.is_file():
+            raise ValueError(f"there is no {file}")
+        text = files.get(file) or text_of(path)
+        if text.count(old) != 1:
+            raise ValueError(f"its old text is in {file} {text.count(old)} times: {old.strip()}")
+        files[file] = text.replace(old, new)
+    return files
