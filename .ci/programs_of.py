@@ -32,7 +32,8 @@ def built(name):
     """The path of a program, which is built if it isn't yet."""
     path = path_of(name)
     if not os.path.exists(path):
-        subprocess.run(["rt", "run", "--", "--help"], cwd=f"{TOP}/crates/{name}", stdin=subprocess.DEVNULL, stdout=subprocess.DEVNULL, check=True)
+        quiet = {"stdin": subprocess.DEVNULL, "stdout": subprocess.DEVNULL}
+        subprocess.run(["rt", "run", "--", "--help"], cwd=f"{TOP}/crates/{name}", check=True, **quiet)
     return path
 
 

@@ -24,9 +24,11 @@ def table(picture, y, title, slots, held):
 def chain():
     """Two tables, the lower one half copied; a slot's states, and which step leads from one to the next."""
     title = "A table is copied to the next one while calls go on"
-    picture = Picture(640, 330, title, "The lower table has eight slots: two finished, two primed, two with a key and a number, two empty. The upper "
-                      "table of sixteen slots has the entries of the finished ones, and of one that is primed. A slot goes from empty to held by a put, "
-                      "from held to primed by its copier, and from primed to finished once its entry is above; an empty slot is closed at once.")
+    picture = Picture(640, 330, title,
+                      "The lower table has eight slots: two finished, two primed, two with a key and a number, two empty. The upper "
+                      "table of sixteen slots has the entries of the finished ones, and of one that is primed. A slot goes from empty "
+                      "to held by a put, from held to primed by its copier, and from primed to finished once its entry is above; an "
+                      "empty slot is closed at once.")
     picture.text(14, 20, title, "head")
     above = table(picture, 40, "next table", 16, NEXT)
     below = table(picture, 130, "this table", 8, THIS)
@@ -60,9 +62,9 @@ STEPS = [
 def way_of_a_put():
     """What a put does, from its home slot to the last table."""
     picture = Picture(640, 36 + 62 * len(STEPS), "The way of a put",
-                      "A put looks at its key's home slot and exchanges the number there, which is all that most puts do. Else it loads the top word and searches the "
-                      "key's path in the top table. Where that is full, or being copied, it helps to copy and goes up. In the last table it is refused if other keys "
-                      "have all slots.")
+                      "A put looks at its key's home slot and exchanges the number there, which is all that most puts do. Else it "
+                      "loads the top word and searches the key's path in the top table. Where that is full, or being copied, it helps "
+                      "to copy and goes up. In the last table it is refused if other keys have all slots.")
     picture.text(14, 20, "The way of a put", "head")
     for at, (what, where, then, ends) in enumerate(STEPS):
         y = 36 + 62 * at

@@ -103,14 +103,16 @@ def pictures():
     yield speed("speed", table, names, [1, 2, 4, 8], panels, "Nanoseconds a call, by threads (less is better)", told)
     java = ["Samvolip", "JCTools", "ConcurrentHashMap"]
     by_threads = rows("java")
-    yield speed("speed-java", by_threads, java, [1, 2, 4], [("A", "reads"), ("C", "half writes"), ("D", "new keys, growing"), ("E", "one key")],
+    workloads = [("A", "reads"), ("C", "half writes"), ("D", "new keys, growing"), ("E", "one key")]
+    yield speed("speed-java", by_threads, java, [1, 2, 4], workloads,
                 "Nanoseconds a call beside Java's maps, by threads", "Nanoseconds a call: " + "; ".join(
                     f"{row['workload']} by {row['threads']}: " + ", ".join(f"{name} {row[name]}" for name in java) for row in by_threads))
     names = ["Samvolip", "dashmap", "TBB", "libcuckoo", "ConcurrentHashMap", "JCTools"]
     parts = [("half", "half of all puts take at most"), ("99", "99 in a hundred"), ("99.9", "999 in a thousand"), ("all", "the longest")]
     times = {row["part"]: row for row in rows("put_times") if row["threads"] == "1"}
     groups = [(said, [(name, float(times[part][name])) for name in names]) for part, said in parts]
-    yield bars("put-times", groups, names, "ns", Scale(20, 2e6, 150, 540), "How long a put takes while a map grows to 32,768 keys, one thread (steps of ten)",
+    yield bars("put-times", groups, names, "ns", Scale(20, 2e6, 150, 540),
+               "How long a put takes while a map grows to 32,768 keys, one thread (steps of ten)",
                "; ".join(f"{said}: " + ", ".join(f"{name} {number:,g} ns" for name, number in numbers) for said, numbers in groups))
     names = ["Samvolip", "dashmap", "TBB", "libcuckoo", "ConcurrentHashMap", "JCTools", "libcds F"]
     memory = next(row for row in rows("million") if row["what"] == "memory" and row["threads"] == "1")

@@ -27,7 +27,8 @@ STYLE = """
     .c6 { stroke: #4dd0e1; fill: #4dd0e1 } .line { fill: none }
   }
 """
-TIP = '<marker id="tip" viewBox="0 0 8 8" refX="7" refY="4" markerWidth="7" markerHeight="7" orient="auto"><path class="tip" d="M0,0 8,4 0,8z"/></marker>'
+TIP = '<marker id="tip" viewBox="0 0 8 8" refX="7" refY="4" markerWidth="7" markerHeight="7" orient="auto">' \
+    '<path class="tip" d="M0,0 8,4 0,8z"/></marker>'
 
 
 class Picture:

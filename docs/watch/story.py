@@ -89,8 +89,8 @@ STORY = [
         ),
         (
             "It does C's part, too",
-            "No slots are left to take, but table 1 isn't complete. B can't know whether C ever goes on, and so does its slots, too. Key 8 was"
-            " removed: its tombstone is primed, and not copied. A looks for this key meanwhile.",
+            "No slots are left to take, but table 1 isn't complete. B can't know whether C ever goes on, and so does its slots, too."
+            " Key 8 was removed: its tombstone is primed, and not copied. A looks for this key meanwhile.",
             "B:count B:count A* B:promote B*",
         ),
         (

@@ -23,7 +23,8 @@ parts=("@$here/src/links" "${objects[@]/#/$to/}" -Wl,--whole-archive "$archive" 
 
 printf '{ global: samvolip_*; local: *; };\n' > "$to/samvolip.map"
 rm -f "$to/libsamvolip.so" "$to/$name"
-"${CC:-cc}" -shared -o "$to/libsamvolip.so.$version" -Wl,-soname,"$name" -Wl,--version-script="$to/samvolip.map" -Wl,-z,defs -Wl,-z,nodelete -Wl,-Bsymbolic-functions "${parts[@]}" -lpthread
+"${CC:-cc}" -shared -o "$to/libsamvolip.so.$version" -Wl,-soname,"$name" -Wl,--version-script="$to/samvolip.map" \
+    -Wl,-z,defs -Wl,-z,nodelete -Wl,-Bsymbolic-functions "${parts[@]}" -lpthread
 ln -s "libsamvolip.so.$version" "$to/$name"
 ln -s "$name" "$to/libsamvolip.so"
 rm "$to/samvolip.map"

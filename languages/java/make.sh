@@ -1,7 +1,7 @@
 #!/usr/bin/env bash
 # Makes samvolip.jar: make.sh FOLDER [LIBRARY] writes FOLDER/samvolip.jar, with LIBRARY in it, if that is named, which is the file
-# libsamvolip.so. It prints a line for each Java that the jar serves: its version and its folder. It takes a JDK 17 and a JDK 22 or later, as
-# many of the two as there are: in JAVA_HOME, on the PATH, in /usr/lib/jvm. With both, the jar serves both.
+# libsamvolip.so. It prints a line for each Java that the jar serves: its version and its folder. It takes a JDK 17 and a JDK 22 or
+# later, as many of the two as there are: in JAVA_HOME, on the PATH, in /usr/lib/jvm. With both, the jar serves both.
 set -euo pipefail
 here="$(cd "$(dirname "${BASH_SOURCE[0]}")" && pwd)"
 to="${1:?make.sh FOLDER [LIBRARY]}"
@@ -30,8 +30,8 @@ mkdir "$made/base"
 printf 'Automatic-Module-Name: samvolip\nMulti-Release: true\n' > "$made/manifest"
 more=()
 if [ -n "$old" ]; then
-    "${old#* }/bin/javac" "${short[@]}" --add-modules jdk.incubator.foreign -nowarn -d "$made/base" "$here"/samvolip/*.java "$here"/java17/samvolip/*.java \
-        2> "$made/told" || { cat "$made/told" >&2; exit 1; }
+    "${old#* }/bin/javac" "${short[@]}" --add-modules jdk.incubator.foreign -nowarn -d "$made/base" \
+        "$here"/samvolip/*.java "$here"/java17/samvolip/*.java 2> "$made/told" || { cat "$made/told" >&2; exit 1; }
     if [ -n "$new" ]; then
         # all of it against Java 22's API, although Native alone is another class than Java 17's
         mkdir "$made/new"

@@ -6,7 +6,9 @@ set -euo pipefail
 here="$(cd "$(dirname "${BASH_SOURCE[0]}")" && pwd)"
 library="${SAMVOLIP_LIB:-$here/../c/out}/libsamvolip.a"
 can() {
-    "$1" -c 'import os, setuptools, wheel, pip, sys, sysconfig; sys.exit(sys.version_info < (3, 10) or not os.path.exists(sysconfig.get_path("include") + "/Python.h"))' 2> /dev/null
+    "$1" -c 'import os, setuptools, wheel, pip, sys, sysconfig
+header = sysconfig.get_path("include") + "/Python.h"
+sys.exit(sys.version_info < (3, 10) or not os.path.exists(header))' 2> /dev/null
 }
 python="${PYTHON:-python3}"
 [ -n "${PYTHON:-}" ] || can "$python" || python=/usr/bin/python3

@@ -35,7 +35,8 @@ def version(folder):
 
 
 if not os.path.exists(LIBRARY):
-    sys.exit(f"samvolip: there is no {LIBRARY}. SAMVOLIP_LIB names the folder of libsamvolip.a; in the repository languages/c/build.sh makes it")
+    sys.exit(f"samvolip: there is no {LIBRARY}. SAMVOLIP_LIB names the folder of libsamvolip.a; "
+        "in the repository languages/c/build.sh makes it")
 
 setup(
     version=version(headers()),

@@ -140,7 +140,8 @@ static void growth(unsigned threads)
     }
     double took = now(CLOCK_MONOTONIC) - begun;
     made(samvolip_map_look(shared, &figures));
-    printf("growth %llu %u %.1f %.2f %.2f\n", (unsigned long long)keys, threads, took / (double)keys, longest / 1e6, (double)figures.write_stop / 1e6);
+    printf("growth %llu %u %.1f %.2f %.2f\n", (unsigned long long)keys, threads, took / (double)keys, longest / 1e6,
+           (double)figures.write_stop / 1e6);
     samvolip_map_free(shared);
 }
 

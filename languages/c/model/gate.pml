@@ -590,7 +590,8 @@ proctype whole(byte me) {
        :: atomic { divided || alone_with == ALL_PLACES -> break }
 #endif
 #ifdef ALONE_WITH_ONE_PART
-       :: atomic { !locked -> if :: (held & (alone_with == ALL_PLACES -> 5 : alone_with)) == 0 -> held = held | alone_with; break :: else -> sleep(me) fi };
+       :: atomic { !locked -> if :: (held & (alone_with == ALL_PLACES -> 5 : alone_with)) == 0 -> held = held | alone_with; break
+                                 :: else -> sleep(me) fi };
 #else
        :: atomic { !locked -> if :: (held & alone_with) == 0 -> held = held | alone_with; break :: else -> sleep(me) fi };
 #endif

@@ -52,27 +52,40 @@ int samvolip_map_contains(samvolip_map *map, uint64_t key)
     return samvolip_map_get(map, key, &number);
 }
 
-CALL(WRITES, put, (KEY, uint64_t number, uint64_t *before), (map, key, number, before), samvolip_try_put(seat, inner, number, 1, before ? before : &found), COMES_IF_ABSENT)
+CALL(WRITES, put, (KEY, uint64_t number, uint64_t *before), (map, key, number, before),
+     samvolip_try_put(seat, inner, number, 1, before ? before : &found), COMES_IF_ABSENT)
 
-CALL(WRITES, put_if_absent, (KEY, uint64_t number, uint64_t *before), (map, key, number, before), samvolip_try_put_if_absent(seat, inner, number, 1, before ? before : &found), COMES_IF_ABSENT)
+CALL(WRITES, put_if_absent, (KEY, uint64_t number, uint64_t *before), (map, key, number, before),
+     samvolip_try_put_if_absent(seat, inner, number, 1, before ? before : &found), COMES_IF_ABSENT)
 
-CALL(WRITES, get_or_insert, (KEY, uint64_t number, uint64_t *there), (map, key, number, there), samvolip_get_or_insert(seat, inner, number, there), COMES_IF_ABSENT)
+CALL(WRITES, get_or_insert, (KEY, uint64_t number, uint64_t *there), (map, key, number, there),
+     samvolip_get_or_insert(seat, inner, number, there), COMES_IF_ABSENT)
 
-CALL(WRITES, fetch_max, (KEY, uint64_t number, uint64_t *before), (map, key, number, before), samvolip_fetch_max(seat, inner, number, before), COMES_IF_ABSENT)
+CALL(WRITES, fetch_max, (KEY, uint64_t number, uint64_t *before), (map, key, number, before),
+     samvolip_fetch_max(seat, inner, number, before), COMES_IF_ABSENT)
 
-CALL(WRITES, fetch_min, (KEY, uint64_t number, uint64_t *before), (map, key, number, before), samvolip_fetch_min(seat, inner, number, before), COMES_IF_ABSENT)
+CALL(WRITES, fetch_min, (KEY, uint64_t number, uint64_t *before), (map, key, number, before),
+     samvolip_fetch_min(seat, inner, number, before), COMES_IF_ABSENT)
 
-CALL(WRITES, add, (KEY, uint64_t number, uint64_t *before), (map, key, number, before), samvolip_try_add(seat, inner, number, 1, before ? before : &found), COMES_IF_ABSENT)
+CALL(WRITES, add, (KEY, uint64_t number, uint64_t *before), (map, key, number, before),
+     samvolip_try_add(seat, inner, number, 1, before ? before : &found), COMES_IF_ABSENT)
 
-CALL(WRITES, replace, (KEY, uint64_t number, uint64_t *before), (map, key, number, before), samvolip_replace(seat, inner, number, before), STAYS)
+CALL(WRITES, replace, (KEY, uint64_t number, uint64_t *before), (map, key, number, before),
+     samvolip_replace(seat, inner, number, before), STAYS)
 
-CALL(WRITES, replace_if, (KEY, uint64_t old, uint64_t number), (map, key, old, number), samvolip_replace_if(seat, inner, old, number), STAYS)
+CALL(WRITES, replace_if, (KEY, uint64_t old, uint64_t number), (map, key, old, number),
+     samvolip_replace_if(seat, inner, old, number), STAYS)
 
-CALL(WRITES, remove, (KEY, uint64_t *before), (map, key, before), samvolip_try_remove(seat, inner, 1, before ? before : &found), GOES_IF_PRESENT)
+CALL(WRITES, remove, (KEY, uint64_t *before), (map, key, before),
+     samvolip_try_remove(seat, inner, 1, before ? before : &found), GOES_IF_PRESENT)
 
-CALL(WRITES, remove_if, (KEY, uint64_t number), (map, key, number), samvolip_remove_if(seat, inner, number), GOES_IF_PRESENT)
+CALL(WRITES, remove_if, (KEY, uint64_t number), (map, key, number),
+     samvolip_remove_if(seat, inner, number), GOES_IF_PRESENT)
 
-CALL(WRITES, compare_exchange, (KEY, const uint64_t *expected, const uint64_t *next, samvolip_reply *reply), (map, key, expected, next, reply), samvolip_compare_exchange(seat, inner, expected, next, 1, reply), code < 0 || !reply->matched || !expected == !next ? STAYS : next ? COMES : GOES)
+CALL(WRITES, compare_exchange, (KEY, const uint64_t *expected, const uint64_t *next, samvolip_reply *reply),
+     (map, key, expected, next, reply),
+     samvolip_compare_exchange(seat, inner, expected, next, 1, reply),
+     code < 0 || !reply->matched || !expected == !next ? STAYS : next ? COMES : GOES)
 
 int samvolip_map_update(samvolip_map *map, uint64_t key, samvolip_updater *updater, void *context, uint64_t *before)
 {
@@ -194,7 +207,8 @@ static void free_map(samvolip_map *map)
     free(map);
 }
 
-int samvolip_map_open_with(uint32_t version, size_t options_size, size_t figures_size, const samvolip_map_options *options, samvolip_map **made)
+int samvolip_map_open_with(uint32_t version, size_t options_size, size_t figures_size, const samvolip_map_options *options,
+                           samvolip_map **made)
 {
     samvolip_map_options read;
     if (version >> 8 != SAMVOLIP_VERSION >> 8 || version > SAMVOLIP_VERSION || options_size != sizeof read

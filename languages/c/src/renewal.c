@@ -120,8 +120,10 @@ static uint64_t least_keys(const samvolip_map *map, const part *in)
    may have taken keys out. */
 static void count_anew(const samvolip_map *map, const part *in, uint64_t taken, uint64_t keys, uint32_t *left)
 {
-    uint64_t slots = slots_of(in->core->exponent), most = taken < crowded(slots) ? crowded(slots) : tight(slots), least = least_keys(map, in);
-    uint64_t writers = greater(1, map->taken < map->count - COMMON ? map->taken : map->taken + SHARED); /* none shares while lanes are free */
+    uint64_t slots = slots_of(in->core->exponent), most = taken < crowded(slots) ? crowded(slots) : tight(slots);
+    uint64_t least = least_keys(map, in);
+    /* none shares while lanes are free */
+    uint64_t writers = greater(1, map->taken < map->count - COMMON ? map->taken : map->taken + SHARED);
     uint64_t at_least = LEAST_LEFT + slots / greater(512, 64 * writers);
     uint64_t comes = taken < most ? (most - taken) / writers : slots / 64, goes = least < keys ? (keys - least) / writers : 0;
     left[COMES] = (uint32_t)greater(at_least, comes < slots / 8 ? comes : slots / 8);

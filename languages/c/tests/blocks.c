@@ -100,7 +100,8 @@ static void cleared_blocks(void)
 
 static void moved_blocks(void)
 {
-    static const size_t sizes[] = {1, MIB / 4 - 1, MIB / 4, MIB / 2 + 16, 2 * MIB - 1, 2 * MIB, 3 * MIB + 5, 3 * MIB + 6, 9 * MIB, MIB + 1, 100};
+    static const size_t sizes[] = {1,           MIB / 4 - 1, MIB / 4, MIB / 2 + 16, 2 * MIB - 1, 2 * MIB,
+                                   3 * MIB + 5, 3 * MIB + 6, 9 * MIB, MIB + 1,      100};
     for (size_t i = 0; i < sizeof sizes / sizeof *sizes; i++)
         for (size_t j = 0; j < sizeof sizes / sizeof *sizes; j++) {
             size_t both = sizes[i] < sizes[j] ? sizes[i] : sizes[j];

@@ -1706,7 +1706,8 @@ static void memory_bounds_all_parts_together(void)
         for (unsigned i = 0; i < 4; i++)
             for (uint64_t key = 0; key < workers[i].turn && turn < 2; key++)
                 EXPECT(samvolip_map_remove(map, key * 4 + i, NULL) == SAMVOLIP_PRESENT);
-        EXPECT((turn ? samvolip_map_renew(map, 0) : samvolip_map_clear(map, NULL, NULL)) == (turn < 2 ? SAMVOLIP_OK : SAMVOLIP_E_OUT_OF_MEMORY));
+        int code = turn ? samvolip_map_renew(map, 0) : samvolip_map_clear(map, NULL, NULL);
+        EXPECT(code == (turn < 2 ? SAMVOLIP_OK : SAMVOLIP_E_OUT_OF_MEMORY));
         EXPECT(size_of(map) == (turn < 2 ? 0 : put));
     }
     samvolip_map_free(map);

@@ -660,6 +660,7 @@ int main(int count, char **words)
     a_handler_pins_anywhere();
     forks_between_any_two_steps();
 #endif
-    printf("objects: %llu made, %llu freed, in the last map; %d handlers, %d of them in the middle of a call\n", (unsigned long long)made, (unsigned long long)freed, (int)came, (int)nested);
+    printf("objects: %llu made, %llu freed, in the last map; %d handlers, %d of them in the middle of a call\n",
+           (unsigned long long)made, (unsigned long long)freed, (int)came, (int)nested);
     return 0;
 }

@@ -173,11 +173,13 @@ void costs(std::uint64_t rounds, std::uint64_t calls)
         cost("a get and what it reads, under one pin", rounds, calls, [&](std::uint64_t key) { sum += pin.get(key)->key; });
     }
     cost("new and delete", rounds, calls, [&](std::uint64_t key) { std::make_unique<object>(key); });
-    cost("new, and a put over what is there", rounds, calls, [&](std::uint64_t key) { objects.put(key, std::make_unique<object>(key)).value(); });
+    cost("new, and a put over what is there", rounds, calls,
+         [&](std::uint64_t key) { objects.put(key, std::make_unique<object>(key)).value(); });
     samvolip::map numbers(options);
     for (std::uint64_t key = 0; key < 1024; key++)
         numbers.insert_or_assign(key, key).value();
-    cost("samvolip_map_put of a number", rounds, calls, [&](std::uint64_t key) { samvolip_map_put(numbers.native_handle(), key, ++sum, &number); });
+    cost("samvolip_map_put of a number", rounds, calls,
+         [&](std::uint64_t key) { samvolip_map_put(numbers.native_handle(), key, ++sum, &number); });
 }
 
 } // namespace

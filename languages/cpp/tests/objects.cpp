@@ -184,9 +184,13 @@ void throws()
     map.put(7, fresh(1)).value();
     object_map<made> others;
     const auto attempts = {
-        +[](object_map<counted> &to, object_map<made> &) { to.update(7, [](const counted *) -> std::unique_ptr<counted> { throw thrown(); }).value(); },
+        +[](object_map<counted> &to, object_map<made> &) {
+            to.update(7, [](const counted *) -> std::unique_ptr<counted> { throw thrown(); }).value();
+        },
         +[](object_map<counted> &to, object_map<made> &) { to.erase_if(7, [](const counted &) -> bool { throw thrown(); }).value(); },
-        +[](object_map<counted> &to, object_map<made> &) { to.erase_if([](std::uint64_t, const counted &) -> bool { throw thrown(); }).value(); },
+        +[](object_map<counted> &to, object_map<made> &) {
+            to.erase_if([](std::uint64_t, const counted &) -> bool { throw thrown(); }).value();
+        },
         +[](object_map<counted> &to, object_map<made> &) { to.for_each([](std::uint64_t, counted &) { throw thrown(); }).value(); },
         +[](object_map<counted> &, object_map<made> &to) { to.try_emplace(7, true).value(); },
     };
@@ -341,7 +345,8 @@ void counts_through_renewals()
 int main(int count, char **words)
 {
     rounds = count > 1 ? static_cast<unsigned>(std::strtoul(words[1], nullptr, 10)) : rounds;
-    for (auto test : {puts_and_gets, emplaces, erases, exchanges, updates, refusals, throws, walks, moves, other_objects, counts_through_renewals}) {
+    for (auto test : {puts_and_gets, emplaces, erases, exchanges, updates, refusals, throws, walks,
+                     moves, other_objects, counts_through_renewals}) {
         test();
         EXPECT(alive == 0);
     }

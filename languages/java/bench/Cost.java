@@ -14,10 +14,10 @@ import samvolip.Options;
 import samvolip.SamvolipMap;
 
 /**
- * What a call takes, in nanoseconds, beside other maps: Cost [KEYS [MILLISECONDS [TURNS]]]. A line is a call of a map, with its keys in order
- * and in none: the best round of all, and the middle one. Each case runs in a virtual machine of its own, so that nothing is compiled for
- * another one's calls, warms up for so many milliseconds, and is measured for as many, by rounds of 1,000 of so many keys, 65,536 if nothing
- * is said. The cases go by turns. JCTools' map is among them where it is in the class path.
+ * What a call takes, in nanoseconds, beside other maps: Cost [KEYS [MILLISECONDS [TURNS]]]. A line is a call of a map, with its keys in
+ * order and in none: the best round of all, and the middle one. Each case runs in a virtual machine of its own, so that nothing is
+ * compiled for another one's calls, warms up for so many milliseconds, and is measured for as many, by rounds of 1,000 of so many keys,
+ * 65,536 if nothing is said. The cases go by turns. JCTools' map is among them where it is in the class path.
  */
 public final class Cost {
     private static final int ROUND = 1000;
@@ -80,7 +80,8 @@ public final class Cost {
             case 0, 1 -> ours(call, Keys.SECRET, map == 1);
             case 2 -> ours(call, Keys.AS_THEY_ARE, false);
             case 3 -> theirs(call, new ConcurrentHashMap<>());
-            default -> theirs(call, (Map<Long, Long>) Class.forName("org.jctools.maps.NonBlockingHashMapLong").getConstructor().newInstance());
+            default -> theirs(call, (Map<Long, Long>) Class.forName("org.jctools.maps.NonBlockingHashMapLong")
+                .getConstructor().newInstance());
         };
         long[] all = LongStream.range(0, keyCount).toArray();
         if (!inOrder) shuffle(all, new Random(7));
@@ -103,7 +104,8 @@ public final class Cost {
         List<String> words = new ArrayList<>(List.of(System.getProperty("java.home") + "/bin/java"));
         words.addAll(ManagementFactory.getRuntimeMXBean().getInputArguments());
         words.addAll(List.of("-cp", System.getProperty("java.class.path"), "Cost", "case"));
-        words.addAll(List.of(Integer.toString(map), call, Boolean.toString(inOrder), Long.toString(milliseconds), Integer.toString(keyCount)));
+        words.addAll(List.of(Integer.toString(map), call, Boolean.toString(inOrder),
+            Long.toString(milliseconds), Integer.toString(keyCount)));
         Process process = new ProcessBuilder(words).redirectError(ProcessBuilder.Redirect.DISCARD).start();
         String[] told = new String(process.getInputStream().readAllBytes()).trim().split(" ");
         if (told.length != 2) throw new IOException("a case of " + MAPS.get(map) + " has failed");

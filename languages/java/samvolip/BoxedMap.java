@@ -15,7 +15,10 @@ import java.util.concurrent.ConcurrentMap;
 import java.util.function.BiConsumer;
 import java.util.function.Predicate;
 
-/** What {@link SamvolipMap#asConcurrentMap} answers. Functions are called by ConcurrentMap's own loops; all else that isn't here is AbstractMap's. */
+/**
+ * What {@link SamvolipMap#asConcurrentMap} answers. Functions are called by ConcurrentMap's own loops; all else that isn't here is
+ * AbstractMap's.
+ */
 final class BoxedMap extends AbstractMap<Long, Long> implements ConcurrentMap<Long, Long> {
     private final SamvolipMap map;
 
@@ -173,7 +176,8 @@ final class BoxedMap extends AbstractMap<Long, Long> implements ConcurrentMap<Lo
     private abstract class SetView<E> extends View<E> implements Set<E> {
         @Override
         public boolean equals(Object other) {
-            return other == this || other instanceof Set<?> its && its.size() == size() && its.stream().allMatch(one -> one != null && contains(one));
+            return other == this || other instanceof Set<?> its && its.size() == size()
+                && its.stream().allMatch(one -> one != null && contains(one));
         }
 
         @Override

@@ -12,4 +12,5 @@ package samvolip;
  * @param keys about how many keys there are
  * @param threads how many threads have a seat of their own
  */
-public record Figures(long renewals, long refused, long longestWriteStop, long longestReadStop, long allWriteStops, long slots, long keys, long threads) {}
+public record Figures(
+    long renewals, long refused, long longestWriteStop, long longestReadStop, long allWriteStops, long slots, long keys, long threads) {}

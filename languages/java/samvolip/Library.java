@@ -22,7 +22,8 @@ final class Library {
             Functions.touch();
         } catch (ExceptionInInitializerError failed) {
             if (failed.getCause() instanceof NoSuchElementException missing)
-                throw wrong("the libsamvolip.so that was found has no function " + missing.getMessage() + ": it is of another version", missing);
+                throw wrong("the libsamvolip.so that was found has no function " + missing.getMessage()
+                    + ": it is of another version", missing);
             throw wrong(linker(), failed);
         } catch (NoClassDefFoundError failed) {
             throw wrong(linker(), failed);
@@ -43,7 +44,8 @@ final class Library {
             else System.load(inFolder(new File(file)).getAbsolutePath());
         } catch (UnsatisfiedLinkError failed) {
             throw wrong(file == null
-                ? "libsamvolip.so isn't found. Say where it is by -Dsamvolip=FILE or by SAMVOLIP_LIB=FILE, or put it into a folder of java.library.path, which is "
+                ? "libsamvolip.so isn't found. Say where it is by -Dsamvolip=FILE or by SAMVOLIP_LIB=FILE, "
+                    + "or put it into a folder of java.library.path, which is "
                     + System.getProperty("java.library.path")
                 : told + " is no libsamvolip.so that can be loaded: " + failed.getMessage(), failed);
         }
@@ -62,7 +64,8 @@ final class Library {
             }
             return true;
         } catch (IOException | UnsatisfiedLinkError failed) {
-            throw wrong("the jar's libsamvolip.so can't be loaded from java.io.tmpdir; -Dsamvolip=FILE names another one: " + failed.getMessage(), failed);
+            throw wrong("the jar's libsamvolip.so can't be loaded from java.io.tmpdir; -Dsamvolip=FILE names another one: "
+                + failed.getMessage(), failed);
         }
     }
 

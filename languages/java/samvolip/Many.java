@@ -62,7 +62,8 @@ final class Many {
     /** Writes the keys by C's function for many. */
     static void write(SamvolipMap map, MethodHandle call, long[] keys, long[] numbers, IntConsumer alone) {
         long at = map.at();
-        if (keys.length != numbers.length) throw new IllegalArgumentException("there are " + keys.length + " keys, and " + numbers.length + " numbers");
+        if (keys.length != numbers.length)
+            throw new IllegalArgumentException("there are " + keys.length + " keys, and " + numbers.length + " numbers");
         copied(map, keys, (words, into, from, count) -> {
             Native.write(numbers, from, count, into);
             return (long) call.invokeExact(at, words, into, (long) count);

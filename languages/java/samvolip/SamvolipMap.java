@@ -268,7 +268,10 @@ public final class SamvolipMap implements AutoCloseable, Iterable<Entry> {
         }
     }
 
-    /** Puts a number at a key that has none; else sets it to what a function makes of its number and this one. Answers what is there then. */
+    /**
+     * Puts a number at a key that has none; else sets it to what a function makes of its number and this one. Answers what is there
+     * then.
+     */
     public long merge(long key, long number, LongBinaryOperator join) {
         Objects.requireNonNull(join);
         while (true) {
@@ -417,8 +420,8 @@ public final class SamvolipMap implements AutoCloseable, Iterable<Entry> {
      * are, so -3 is the greatest and -1 is none. A function is called again if another thread wrote the key meanwhile; if it answers null,
      * the key is taken out.
      *
-     * <p>The iterators of its views are walks ({@link #iterator}) that can remove, and their entries write to the map. A walk that a program
-     * leaves before its end keeps its memory until it is collected.
+     * <p>The iterators of its views are walks ({@link #iterator}) that can remove, and their entries write to the map. A walk that a
+     * program leaves before its end keeps its memory until it is collected.
      */
     public ConcurrentMap<Long, Long> asConcurrentMap() {
         return new BoxedMap(this);

@@ -64,7 +64,8 @@ public final class GuavaTest {
     /** Guava's other flags, with the reason. Where a flag isn't set, the suite asks for the contrary, if that is one of a map's rules. */
     private static final List<Feature<?>> LEFT_OUT = List.of(
         // a ConcurrentMap refuses null
-        MapFeature.ALLOWS_NULL_KEYS, MapFeature.ALLOWS_NULL_VALUES, MapFeature.ALLOWS_NULL_KEY_QUERIES, MapFeature.ALLOWS_NULL_VALUE_QUERIES,
+        MapFeature.ALLOWS_NULL_KEYS, MapFeature.ALLOWS_NULL_VALUES, MapFeature.ALLOWS_NULL_KEY_QUERIES,
+        MapFeature.ALLOWS_NULL_VALUE_QUERIES,
         MapFeature.ALLOWS_NULL_ENTRY_QUERIES, MapFeature.ALLOWS_ANY_NULL_QUERIES, CollectionFeature.ALLOWS_NULL_VALUES,
         CollectionFeature.ALLOWS_NULL_QUERIES,
         // its iterators go on while others write
@@ -78,7 +79,8 @@ public final class GuavaTest {
         // the suite itself sets it for the views, where the map supports removals
         CollectionFeature.REMOVE_OPERATIONS,
         // these are no rules of such a map, nor of its views
-        MapFeature.REJECTS_DUPLICATES_AT_CREATION, CollectionFeature.REJECTS_DUPLICATES_AT_CREATION, CollectionFeature.NON_STANDARD_TOSTRING,
+        MapFeature.REJECTS_DUPLICATES_AT_CREATION, CollectionFeature.REJECTS_DUPLICATES_AT_CREATION,
+        CollectionFeature.NON_STANDARD_TOSTRING,
         CollectionFeature.SUPPORTS_ADD, CollectionFeature.GENERAL_PURPOSE, CollectionFeature.SUBSET_VIEW, CollectionFeature.NONE);
 
     /** Each flag of maps and of their views is set, follows from one that is, or is left out. */

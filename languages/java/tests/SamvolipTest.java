@@ -317,7 +317,10 @@ public final class SamvolipTest {
         }
     }
 
-    /** Virtual threads walk, one walk within another, rest in the middle of it, and go on by whichever thread is free; others write meanwhile. */
+    /**
+     * Virtual threads walk, one walk within another, rest in the middle of it, and go on by whichever thread is free; others write
+     * meanwhile.
+     */
     private static void virtualThreads() throws Exception {
         if (Runtime.version().feature() < 21) return;
         ExecutorService pool = (ExecutorService) Executors.class.getMethod("newVirtualThreadPerTaskExecutor").invoke(null);
@@ -437,13 +440,15 @@ public final class SamvolipTest {
                 () -> view.computeIfPresent(1L, (key, value) -> -1L), () -> view.entrySet().iterator().next().setValue(-1L));
             for (Runnable call : outOfRange) expect(throwsAs(IllegalArgumentException.class, call));
             List<Runnable> nulls = List.of(() -> view.compute(null, (key, value) -> 1L), () -> view.merge(1L, null, Long::sum),
-                () -> view.merge(null, 1L, Long::sum), () -> view.computeIfAbsent(null, key -> 1L), () -> view.replaceAll((key, value) -> null),
+                () -> view.merge(null, 1L, Long::sum), () -> view.computeIfAbsent(null, key -> 1L),
+                () -> view.replaceAll((key, value) -> null),
                 () -> view.replace(1L, null, 1L), () -> view.remove(1L, null), () -> view.containsValue(null), () -> view.forEach(null),
                 () -> view.get(null), () -> view.remove(null), () -> view.containsKey(null), () -> view.getOrDefault(null, 1L));
             for (Runnable call : nulls) expect(throwsAs(NullPointerException.class, call));
             expect(view.get(-1L) == null && view.get("1") == null && view.remove(-2L) == null && !view.containsKey(-1L));
             expect(!view.containsValue(-1L) && !view.values().remove(-1L) && !view.remove(1L, -1L) && !view.replace(1L, -1L, 1L));
-            for (Map.Entry<Long, Long> other : List.of(Map.entry(-1L, 1L), Map.entry(1L, -1L), Map.entry(1L, 1L), Map.entry(2L, Keys.VALUE_MAX))) {
+            for (Map.Entry<Long, Long> other :
+                    List.of(Map.entry(-1L, 1L), Map.entry(1L, -1L), Map.entry(1L, 1L), Map.entry(2L, Keys.VALUE_MAX))) {
                 expect(!view.entrySet().contains(other) && !view.entrySet().remove(other));
             }
             expect(view.equals(Map.of(1L, Keys.VALUE_MAX, Keys.KEY_MAX, 0L)));
@@ -460,7 +465,8 @@ public final class SamvolipTest {
             }
 
             for (long key = 0; key < 200; key++) view.put(key, key);
-            expect(view.keySet().stream().peek(shown -> view.keySet().removeIf(key -> true)).toArray().length < 200); // a stream has no size
+            expect(view.keySet().stream().peek(shown -> view.keySet().removeIf(key -> true)).toArray()
+                    .length < 200); // a stream has no size
         }
     }
 
@@ -529,7 +535,10 @@ public final class SamvolipTest {
         expect(walk.next(), new Entry(100, 100));
     }
 
-    /** The texts of the codes are the headers', and the page's example is the one that is run. Where they aren't there, nothing is compared. */
+    /**
+     * The texts of the codes are the headers', and the page's example is the one that is run. Where they aren't there, nothing is
+     * compared.
+     */
     private static void pages(Path here) throws IOException {
         Path headers = here.resolve("../c/include"), page = here.resolve("../../docs/java.md");
         if (Files.exists(headers)) {
@@ -541,7 +550,8 @@ public final class SamvolipTest {
         }
         if (Files.exists(page)) {
             StringBuilder indented = new StringBuilder();
-            for (String line : Files.readAllLines(here.resolve("examples/Visits.java"))) indented.append(line.isEmpty() ? "" : "    ").append(line).append('\n');
+            for (String line : Files.readAllLines(here.resolve("examples/Visits.java")))
+                indented.append(line.isEmpty() ? "" : "    ").append(line).append('\n');
             expect(Files.readString(page).contains(indented));
         }
     }

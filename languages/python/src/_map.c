@@ -343,7 +343,8 @@ static bool words_of(PyObject *bytes, uint64_t most, const char *range, const ui
     *count = (size_t)size / sizeof **words;
     for (size_t i = 0; i < *count; i++)
         if ((*words)[i] > most) {
-            PyErr_Format(PyExc_OverflowError, most == INT64_MAX ? "%s, as %lld at place %zu is" : "%s, not %llu, at place %zu", range, (*words)[i], i);
+            PyErr_Format(PyExc_OverflowError,
+                         most == INT64_MAX ? "%s, as %lld at place %zu is" : "%s, not %llu, at place %zu", range, (*words)[i], i);
             return false;
         }
     return true;
@@ -379,8 +380,11 @@ static bool run(const batch *all, each *call)
             from++;
         take_back(state);
         if (code < 0)
-            PyErr_Format(code == SAMVOLIP_E_OUT_OF_MEMORY ? PyExc_MemoryError : code == SAMVOLIP_E_SUM_RANGE ? PyExc_OverflowError : PyExc_RuntimeError,
-                         "%s at key %llu; the %zu calls before it were made", samvolip_map_strerror(code), (unsigned long long)all->keys[from], from);
+            PyErr_Format(code == SAMVOLIP_E_OUT_OF_MEMORY ? PyExc_MemoryError
+                         : code == SAMVOLIP_E_SUM_RANGE   ? PyExc_OverflowError
+                                                          : PyExc_RuntimeError,
+                         "%s at key %llu; the %zu calls before it were made", samvolip_map_strerror(code),
+                         (unsigned long long)all->keys[from], from);
         if (code < 0 || PyErr_CheckSignals() < 0)
             return false;
     }
@@ -395,8 +399,14 @@ static PyObject *run_writes(PyObject *self, PyObject *const *args, Py_ssize_t co
     Py_RETURN_NONE;
 }
 
-static PyObject *map_put_words(PyObject *self, PyObject *const *args, Py_ssize_t count) { return run_writes(self, args, count, "put_many", put_one); }
-static PyObject *map_add_words(PyObject *self, PyObject *const *args, Py_ssize_t count) { return run_writes(self, args, count, "add_many", add_one); }
+static PyObject *map_put_words(PyObject *self, PyObject *const *args, Py_ssize_t count)
+{
+    return run_writes(self, args, count, "put_many", put_one);
+}
+static PyObject *map_add_words(PyObject *self, PyObject *const *args, Py_ssize_t count)
+{
+    return run_writes(self, args, count, "add_many", add_one);
+}
 
 static PyObject *map_get_words(PyObject *self, PyObject *const *args, Py_ssize_t count)
 {
@@ -467,7 +477,8 @@ static PyObject *map_renew(PyObject *self, PyObject *const *args, Py_ssize_t cou
     samvolip_map *map = map_of(self);
     uint64_t room = 0;
     int code;
-    if (!map || !takes("renew", count, 0, 1) || (count == 1 && !read_number(args[0], UINT64_MAX, "the room", "the room is from 0 to 2**64 - 1", &room)))
+    if (!map || !takes("renew", count, 0, 1) ||
+        (count == 1 && !read_number(args[0], UINT64_MAX, "the room", "the room is from 0 to 2**64 - 1", &room)))
         return NULL;
     void *state = let_go();
     code = samvolip_map_renew(map, room);
@@ -537,7 +548,8 @@ static int map_init(PyObject *itself, PyObject *args, PyObject *named)
         return -1;
     }
     for (Py_ssize_t i = 0; i < 5 && i < PyTuple_Size(args); i++)
-        if (!read_number(PyTuple_GetItem(args, i), i < 2 ? UINT64_MAX : UINT32_MAX, "an option", "an option isn't negative, nor so large", &read[i]))
+        if (!read_number(PyTuple_GetItem(args, i), i < 2 ? UINT64_MAX : UINT32_MAX,
+                         "an option", "an option isn't negative, nor so large", &read[i]))
             return -1;
     samvolip_map_options options = {read[0], read[1], (uint32_t)read[2], (uint32_t)read[3], (uint32_t)read[4]};
     samvolip_map *map = NULL;
@@ -572,7 +584,8 @@ static void map_dealloc(PyObject *self)
 static PyMethodDef map_methods[] = {
     {"get", FAST(map_get), "get(key, default=None): the number at a key, or the default."},
     {"put", FAST(map_put), "put(key, number): puts a number at a key. What was there, or None."},
-    {"put_if_absent", FAST(map_put_if_absent), "put_if_absent(key, number): puts a number at a key that has none. What was there: None if it did."},
+    {"put_if_absent", FAST(map_put_if_absent),
+     "put_if_absent(key, number): puts a number at a key that has none. What was there: None if it did."},
     {"replace", FAST(map_replace), "replace(key, number): puts a number at a key that has one. What was there: None if it didn't."},
     {"replace_if", FAST(map_replace_if), "replace_if(key, old, number): puts a number in place of another. Whether it did."},
     {"remove", map_remove, METH_O, "remove(key): takes a key out. What was there, or None."},
@@ -580,7 +593,8 @@ static PyMethodDef map_methods[] = {
     {"add", FAST(map_add), "add(key, number=1): adds a number to what is at a key, or to 0. What was there, or None."},
     {"fetch_max", FAST(map_fetch_max), "fetch_max(key, number): leaves the greater of two numbers. What was there, or None."},
     {"fetch_min", FAST(map_fetch_min), "fetch_min(key, number): leaves the smaller of two numbers. What was there, or None."},
-    {"compare_exchange", FAST(map_compare_exchange), "compare_exchange(key, expected, next): puts next in place of expected; None is no number, of both.\n"
+    {"compare_exchange", FAST(map_compare_exchange),
+     "compare_exchange(key, expected, next): puts next in place of expected; None is no number, of both.\n"
                                                      "What was there, or None: it did it if that is what was expected."},
     {"setdefault", FAST(map_setdefault), "setdefault(key, number=0): the number at a key; if there is none, this one, which is put there."},
     {"pop", FAST(map_pop), "pop(key[, default]): takes a key out. What was there; else the default, or KeyError without one."},
@@ -685,7 +699,8 @@ static PyObject *walk_next(PyObject *itself)
     if (self->shows != ITEMS)
         return PyLong_FromUnsignedLongLong(self->shows == KEYS ? key : number);
     PyObject *pair = PyTuple_New(2);
-    if (pair && (PyTuple_SetItem(pair, 0, PyLong_FromUnsignedLongLong(key)) < 0 || PyTuple_SetItem(pair, 1, PyLong_FromUnsignedLongLong(number)) < 0))
+    if (pair && (PyTuple_SetItem(pair, 0, PyLong_FromUnsignedLongLong(key)) < 0 ||
+                 PyTuple_SetItem(pair, 1, PyLong_FromUnsignedLongLong(number)) < 0))
         Py_CLEAR(pair);
     return pair;
 }
@@ -753,7 +768,8 @@ static PyModuleDef_Slot parts[] = {
 };
 
 static PyModuleDef definition = {
-    PyModuleDef_HEAD_INIT, "_map", "The map of samvolip_map.h; samvolip.Map is what to use.", sizeof(PyObject *), functions, parts, traverse, clear, NULL,
+    PyModuleDef_HEAD_INIT, "_map", "The map of samvolip_map.h; samvolip.Map is what to use.", sizeof(PyObject *),
+    functions, parts, traverse, clear, NULL,
 };
 
 PyMODINIT_FUNC PyInit__map(void) { return PyModuleDef_Init(&definition); }

@@ -1,5 +1,6 @@
-//! Counts how often each line of standard input comes, as `nb_tally` does, in a dashmap: `lines THREADS`. It reads all of the input, and each
-//! thread counts a part of it. The keys are the lines where they were read, by the fx hash. It prints them in the order of their bytes.
+//! Counts how often each line of standard input comes, as `nb_tally` does, in a dashmap: `lines THREADS`. It reads all of the input,
+//! and each thread counts a part of it. The keys are the lines where they were read, by the fx hash. It prints them in the order
+//! of their bytes.
 use dashmap::DashMap;
 use fxhash::FxBuildHasher;
 use std::io::{stdin, stdout, BufWriter, Read, Write};

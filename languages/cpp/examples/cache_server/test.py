@@ -455,11 +455,13 @@ def back_pressure():
 def expiry():
     """Items expire, by the reader's clock and by the walk; a write in their place counts as a new one."""
     with Server("--sweep", 3600000) as server, server.connect() as client:
-        client.ask(request("SET", "a", "5", "PX", "1000") + request("SET", "b", "5", "PX", "1000") + request("SET", "c", "5", "EX", "100"), OK * 3)
+        sets = [("a", "PX", "1000"), ("b", "PX", "1000"), ("c", "EX", "100")]
+        client.ask(b"".join(request("SET", key, "5", unit, time) for key, unit, time in sets), OK * 3)
         client.ask(request("INCR", "a") + request("MGET", *"abc"), number(6) + b"*3\r\n" + text(b"6") + text(b"5") * 2)
         client.ask(request("SET", "b", "7"), OK)
         time.sleep(1.05)
-        client.ask(request("DBSIZE") + request("MGET", *"abc") + request("DBSIZE"), number(3) + b"*3\r\n" + NONE + text(b"7") + text(b"5") + number(2))
+        asked = request("DBSIZE") + request("MGET", *"abc") + request("DBSIZE")
+        client.ask(asked, number(3) + b"*3\r\n" + NONE + text(b"7") + text(b"5") + number(2))
         client.ask(request("SET", "a", "8", "PX", "1"), OK)
         time.sleep(0.01)
         client.ask(request("SET", "a", "9", "XX") + request("DEL", "a") + request("INCR", "a"), NONE + number(0) + number(1))
@@ -692,7 +694,8 @@ def stops():
         assert again.returncode == 1 and re.fullmatch("cache_server: listen: .*\n", again.stderr), f"{again}"
         server.process.send_signal(signal.SIGINT)
         server.process.wait(PATIENCE)
-    for words in (["--port"], ["--port", "65536"], ["--threads", "0"], ["--memory", "1x"], ["--memory", "99999999999999999g"], ["--what", "1"], ["x"]):
+    memory = ["--memory", "1x"], ["--memory", "99999999999999999g"]
+    for words in (["--port"], ["--port", "65536"], ["--threads", "0"], *memory, ["--what", "1"], ["x"]):
         told = subprocess.run([Server.path, *words], capture_output=True, text=True)
         assert told.returncode == 2 and told.stderr.startswith(f"cache_server: {words[0]}: ") and not told.stdout, f"{told}"
     told = subprocess.run([Server.path, "--help"], capture_output=True, text=True)
@@ -706,22 +709,23 @@ def redis_tools():
         return f"left out, since it isn't here: {' '.join(missing)}"
     with Server() as server:
         cli = ["redis-cli", "-p", str(server.port)]
-        for words, told in ((["SET", "a", "b c", "EX", "100"], "OK"), (["GET", "a"], "b c"), (["INCR", "n"], "1"), (["MGET", "a", "x"], "b c\n"),
+        for words, told in ((["SET", "a", "b c", "EX", "100"], "OK"), (["GET", "a"], "b c"), (["INCR", "n"], "1"),
+                            (["MGET", "a", "x"], "b c\n"),
                             (["DBSIZE"], "2"), (["DEL", "a"], "1"), (["NONE"], "ERR unknown command 'NONE'\n")):
             ran = subprocess.run([*cli, *words], capture_output=True, text=True, timeout=PATIENCE)
             assert ran.stdout == told + "\n", f"{words}: {ran}"
         ran = subprocess.run(cli, input="PING\nSET q 1\nQUIT\n", capture_output=True, text=True, timeout=PATIENCE)
         assert ran.stdout.startswith("PONG\nOK\n") and ran.returncode == 0, f"{ran}"
         for more in ([], ["-P", "16", "--threads", "2"]):
-            words = ["redis-benchmark", "-p", str(server.port), "-n", str(many(5000)), "-r", "1000", "-t", "ping,set,get,incr", "--csv", *more]
-            ran = subprocess.run(words, capture_output=True, text=True, timeout=PATIENCE)
+            words = ["redis-benchmark", "-p", str(server.port), "-n", str(many(5000)), "-r", "1000", "-t", "ping,set,get,incr"]
+            ran = subprocess.run([*words, "--csv", *more], capture_output=True, text=True, timeout=PATIENCE)
             names = re.findall(r'^"([A-Z_]+)",', ran.stdout, re.MULTILINE)
             assert names == ["PING_INLINE", "PING_MBULK", "SET", "GET", "INCR"] and not ran.stderr, f"{ran}"
     return None
 
 
-TESTS = [replies, pipelines, split_reads, broken_requests, noise, limits, back_pressure, expiry, written_meanwhile, eviction, overwritten, increments, models,
-         crowd, churn, stops, redis_tools]
+TESTS = [replies, pipelines, split_reads, broken_requests, noise, limits, back_pressure, expiry, written_meanwhile, eviction, overwritten,
+         increments, models, crowd, churn, stops, redis_tools]
 
 
 def main():

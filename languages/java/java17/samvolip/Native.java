@@ -12,7 +12,10 @@ import jdk.incubator.foreign.MemoryLayout;
 import jdk.incubator.foreign.MemorySegment;
 import jdk.incubator.foreign.SymbolLookup;
 
-/** Functions of C and memory of C's, by the incubator module jdk.incubator.foreign of Java 17. Of this package only this file is another for Java 22. */
+/**
+ * Functions of C and memory of C's, by the incubator module jdk.incubator.foreign of Java 17. Of this package only this file is
+ * another for Java 22.
+ */
 final class Native {
     private Native() {}
 
@@ -22,7 +25,10 @@ final class Native {
     private static final MethodHandle CALLOC = linked(CLinker.systemLookup(), "calloc", false, long.class, long.class, long.class);
     private static final MethodHandle FREE = linked(CLinker.systemLookup(), "free", false, void.class, long.class);
 
-    /** A function of the library. It takes and answers ints and longs, and an address is a long. A quick one ends soon, whatever others do. */
+    /**
+     * A function of the library. It takes and answers ints and longs, and an address is a long. A quick one ends soon, whatever others
+     * do.
+     */
     static MethodHandle function(String name, boolean quick, Class<?> answer, Class<?>... takes) {
         return linked(SymbolLookup.loaderLookup(), name, quick, answer, takes);
     }

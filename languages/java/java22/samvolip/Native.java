@@ -20,7 +20,10 @@ final class Native {
     private static final MethodHandle CALLOC = linked(LINKER.defaultLookup(), "calloc", false, long.class, long.class, long.class);
     private static final MethodHandle FREE = linked(LINKER.defaultLookup(), "free", false, void.class, long.class);
 
-    /** A function of the library. It takes and answers ints and longs, and an address is a long. A quick one ends soon, whatever others do. */
+    /**
+     * A function of the library. It takes and answers ints and longs, and an address is a long. A quick one ends soon, whatever others
+     * do.
+     */
     static MethodHandle function(String name, boolean quick, Class<?> answer, Class<?>... takes) {
         return linked(SymbolLookup.loaderLookup(), name, quick, answer, takes);
     }
@@ -35,8 +38,10 @@ final class Native {
     /** Whether {@link #getMany} is there. */
     static final boolean TAKES_ARRAYS = true;
 
-    private static final MethodHandle GET_MANY = LINKER.downcallHandle(SymbolLookup.loaderLookup().find("samvolip_map_try_get_many").orElseThrow(),
-        FunctionDescriptor.of(ValueLayout.JAVA_LONG, ValueLayout.JAVA_LONG, ValueLayout.ADDRESS, ValueLayout.ADDRESS, ValueLayout.JAVA_LONG, ValueLayout.JAVA_LONG),
+    private static final MethodHandle GET_MANY =
+        LINKER.downcallHandle(SymbolLookup.loaderLookup().find("samvolip_map_try_get_many").orElseThrow(),
+        FunctionDescriptor.of(ValueLayout.JAVA_LONG, ValueLayout.JAVA_LONG, ValueLayout.ADDRESS, ValueLayout.ADDRESS,
+            ValueLayout.JAVA_LONG, ValueLayout.JAVA_LONG),
         Linker.Option.critical(true));
 
     /** C's samvolip_map_try_get_many for so many keys from a place on: it reads and writes the arrays where they are. */
