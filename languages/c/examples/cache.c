@@ -3,10 +3,11 @@
  *
  *     cache THREADS [ROOM] < TRACE
  *
- * TRACE has a number on each line. For each of them a thread looks into the cache, and where it isn't
- * there computes it (how many steps its Collatz sequence takes) and puts it in. The threads take the
- * lines in turn. At the end it prints how many lines there were, how many were hits, how often the
- * cache was made anew, and the sum of all answers, which is the same for any number of threads.
+ * TRACE has a number on each line (numbers.awk writes one). For each of them a thread looks into
+ * the cache, and where it isn't there computes it (how many steps its Collatz sequence takes) and
+ * puts it in. The threads take the lines in turn. At the end it prints how many lines there were,
+ * how many were hits, how often the cache was made anew, and the sum of all answers, which is the
+ * same for any number of threads.
  *
  * The map has room for ROOM keys (1000 by default). Where it is full, the threads meet, one of them
  * makes a new map, and all go on: a cache may forget. That is how a program whose keys never end uses

@@ -3,10 +3,11 @@
  *
  *     limiter THREADS [LIMIT] < REQUESTS
  *
- * A line of REQUESTS is a second, a client and a cost: three numbers. A client may spend LIMIT (100
- * by default) in each second; a request that would go past it is refused. Each thread takes the next
- * request that is left. At the end it prints, for each client, what was spent in all and how many of
- * its requests were refused, and it fails if a client spent more than the limit in any second.
+ * A line of REQUESTS is a second, a client and a cost: three numbers (numbers.awk writes some). A
+ * client may spend LIMIT (100 by default) in each second; a request that would go past it is
+ * refused. Each thread takes the next request that is left. At the end it prints, for each client,
+ * what was spent in all and how many of its requests were refused, and it fails if a client spent
+ * more than the limit in any second.
  *
  * One map has all of it, each kind of number at keys of its own: what a client has spent in its
  * newest second, which compare_exchange keeps within the limit; the most that it spent in one; and two

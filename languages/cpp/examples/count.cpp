@@ -2,9 +2,10 @@
 //
 //     count THREADS [TOP] < NUMBERS
 //
-// NUMBERS has a number on each line. The threads take the lines in turn. One map has how often each number was there, and another one
-// at which line it was there first. At the end it prints the TOP most frequent numbers (5 by default), each with both. The output is
-// the same for any number of threads. What is refused ends the program with a line on standard error.
+// NUMBERS has a number on each line (languages/c/examples/numbers.awk writes some). The threads take the lines in turn. One map has
+// how often each number was there, and another one at which line it was there first. At the end it prints the TOP most frequent numbers
+// (5 by default), each with both. The output is the same for any number of threads. What is refused ends the program with a line on
+// standard error.
 #include "samvolip.hpp"
 
 #include <algorithm>
