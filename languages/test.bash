@@ -63,5 +63,8 @@ refuse() {
     say "${1%%.*}: $asked requests for memory refused in turn"
 }
 
+# numbers KIND: the numbers that examples read, a trace or requests
+numbers() { awk -f "$languages/c/examples/numbers.awk" -v kind="$1"; }
+
 # shown PAGE: the whole program of a page, which is its indented lines from the first #include on
 shown() { sed -n '/^    #include/,/^[^ ]/s/^    //p' "$top/docs/$1.md"; }

@@ -111,7 +111,8 @@ say "$rules broken rules told"
 
 for example in cache:trace limiter:requests; do
     build "${example%:*}" "$here/examples/${example%:*}.c"
-    quietly "$made/${example%:*}" 4 < "$here/examples/${example#*:}" || fail "the example ${example%:*} fails"
+    numbers "${example#*:}" > "$made/${example#*:}"
+    quietly "$made/${example%:*}" 4 < "$made/${example#*:}" || fail "the example ${example%:*} fails"
 done
 shown c > "$made/hello.c"
 build hello "$made/hello.c"

@@ -41,8 +41,9 @@ say "the tests run, also under the sanitizers"
 # an example says the same by one thread and by eight; the page's program prints what stands behind 'It prints'
 build_cpp count "$here/examples/count.cpp"
 build_cpp sessions "$here/examples/sessions.cpp"
+numbers trace > "$made/trace"
 for example in count sessions; do
-    for threads in 1 8; do "$made/$example" $threads < "$languages/c/examples/trace" > "$made/$example.$threads"; done
+    for threads in 1 8; do "$made/$example" $threads < "$made/trace" > "$made/$example.$threads"; done
     cmp "$made/$example.1" "$made/$example.8" || fail "the example $example says otherwise by eight threads"
 done
 shown cpp > "$made/hello.cpp"
