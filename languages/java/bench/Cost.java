@@ -1,3 +1,4 @@
+// Measures what calls of the map take, beside other maps.
 import java.io.IOException;
 import java.lang.management.ManagementFactory;
 import java.util.ArrayList;

@@ -1,3 +1,4 @@
+// The map as a java.util.concurrent.ConcurrentMap<Long, Long>.
 package samvolip;
 
 import static java.util.Objects.requireNonNull;

@@ -1,3 +1,4 @@
+// How the library of C is found: by -Dsamvolip or SAMVOLIP_LIB, in the jar, in java.library.path.
 package samvolip;
 
 import java.io.File;

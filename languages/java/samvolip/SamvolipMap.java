@@ -1,3 +1,4 @@
+// The map that programs call. The other public types are what its calls take, answer and throw.
 package samvolip;
 
 import static samvolip.Functions.NONE;

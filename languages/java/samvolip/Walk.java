@@ -1,3 +1,4 @@
+// The iterator of a map's entries.
 package samvolip;
 
 import static samvolip.Functions.made;

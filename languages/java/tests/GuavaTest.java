@@ -1,3 +1,4 @@
+// Runs Guava's suite of a ConcurrentMap on the view of a map.
 import com.google.common.collect.testing.ConcurrentMapTestSuiteBuilder;
 import com.google.common.collect.testing.SampleElements;
 import com.google.common.collect.testing.TestMapGenerator;

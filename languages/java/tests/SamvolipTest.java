@@ -1,3 +1,4 @@
+// The tests of the package: test.sh runs them.
 import java.io.IOException;
 import java.nio.file.Files;
 import java.nio.file.Path;

@@ -1,3 +1,4 @@
+# The types of the extension _map (src/_map.c).
 from typing import Any, SupportsIndex, TypeVar, overload
 
 T = TypeVar("T")

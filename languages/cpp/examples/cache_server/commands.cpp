@@ -1,3 +1,4 @@
+// What each command does: it reads its words, asks the store, and writes its reply.
 #include "commands.hpp"
 
 #include <algorithm>

@@ -1,3 +1,5 @@
+// How a connection is served: bytes are received, whole requests answered in their order, replies
+// sent as the client takes them; and how it ends.
 #include "connection.hpp"
 
 #include <cerrno>

@@ -1,3 +1,4 @@
+// A round of the hand is a walk of the map. A new one begins after its end, and after a renewal.
 #include "hand.hpp"
 
 namespace cache {

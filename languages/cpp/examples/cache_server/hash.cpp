@@ -1,3 +1,4 @@
+// SipHash-1-3 itself, and a secret from the system's random bytes.
 #include "hash.hpp"
 
 #include <cerrno>

@@ -1,3 +1,4 @@
+// How an item is made, in one block with its key and value, and freed with the list behind it.
 #include "item.hpp"
 
 #include <algorithm>

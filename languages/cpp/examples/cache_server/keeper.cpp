@@ -1,3 +1,5 @@
+// The keeper's thread: it sleeps, removes expired items where any item has an expiry, and ends when
+// it is told.
 #include "keeper.hpp"
 
 #include <algorithm>

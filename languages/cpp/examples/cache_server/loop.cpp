@@ -1,3 +1,5 @@
+// A loop's thread: it waits for events, serves connections, takes new ones, and each second closes
+// those whose time is over.
 #include "loop.hpp"
 
 #include <cerrno>

@@ -1,3 +1,4 @@
+// Reads the words of the command line, each with its range, and has the text of the usage.
 #include "options.hpp"
 
 #include <charconv>

@@ -1,3 +1,4 @@
+// The parser of requests. It goes on where it stopped, when more bytes have come.
 #include "requests.hpp"
 
 #include <algorithm>

@@ -1,3 +1,4 @@
+// Opens the port, starts the threads, and hands out connections until it is told to end.
 #include "server.hpp"
 
 #include <cerrno>

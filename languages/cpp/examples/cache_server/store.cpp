@@ -1,3 +1,5 @@
+// The calls of a thread on the cache: writes of a hash's list of items, expiry, eviction, and what
+// is counted.
 #include "store.hpp"
 
 #include <algorithm>

@@ -1,3 +1,4 @@
+// How Java 17 calls the library of C.
 package samvolip;
 
 import java.lang.invoke.MethodHandle;

@@ -1,3 +1,4 @@
+// How Java 22 and later call the library of C.
 package samvolip;
 
 import java.lang.foreign.FunctionDescriptor;
