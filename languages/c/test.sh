@@ -28,8 +28,14 @@ blocks          memory sanitized=100
 words           archive musl sanitized
 objects         archive fenced=20000 sanitized=5000
 endless         archive musl=all,0.05 fenced=all,0.1 small=the_largest_table_fills divided=all,0.1 sanitized=all,0.1
+edges           archive fenced=all,0.2 divided=all,0.5 sanitized=all,0.5
+filtered        archive
+inside_map      sources
+inside_memory   sources
+inside_objects  sources
 memory          refused
 endless_memory  refused_parts
+edges_memory    refused
 TABLE
 }
 
@@ -65,7 +71,7 @@ try() {
 
 # just the names of the headers
 nm -D --defined-only "$library/libsamvolip.so" | awk '{ print $3 }' | sort > "$made/shown"
-grep -ohE '^(int|void|uint32_t|uint64_t|int64_t) samvolip_[a-z_]+\(' "$here"/include/samvolip{,_map,_objects}.h |
+grep -ohE '^(int|void|uint32_t|uint64_t|int64_t|const char) \*?samvolip_[a-z_]+\(' "$here"/include/samvolip{,_map,_objects}.h |
     grep -oE 'samvolip_[a-z_]+' | sort | diff - "$made/shown" || fail "the headers and the library name different functions"
 
 # the headers by each standard, and the sources by each compiler, without a warning

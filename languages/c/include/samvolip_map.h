@@ -65,8 +65,8 @@
  *
  * Plugins. The archive isn't unloaded from a process whose threads have called a map: a shared
  * object with the archive in it is linked by -Wl,-z,nodelete, as libsamvolip.so is. Each copy of the
- * library takes some of the static thread-local storage that the C library keeps for shared objects
- * which are loaded later: COPIES copies fit.
+ * library takes 160 bytes of the static thread-local storage that the C library keeps for shared
+ * objects which are loaded later: of glibc 2.36 ten copies get some.
  *
  * Pointers are not NULL, but for `options`, `before`, `there` and `visit`.
  */
@@ -100,9 +100,9 @@ enum samvolip_keys {
 /* How a map is opened. 0 stands for the default, which is told last. */
 typedef struct samvolip_map_options {
     uint64_t room;    /* for how many keys there is room at first, and at least: 1000 */
-    uint64_t memory;  /* how many bytes the tables take at most, with the new ones of renewals: any;
-                         at least twice those of the first table, which has 16 bytes for each slot,
-                         and 2 to the power of 5 or more slots, three for every two keys of `room` */
+    uint64_t memory;  /* how many bytes the tables take at most, with the new ones of renewals: any. At
+                         least two first tables, with the default room 64 KiB: a table has 16 bytes a
+                         slot, and the first one 32 slots, or the next power of 2 from 3/2 of room on */
     uint32_t growth;  /* a renewal makes room for so many times the keys that there are, 2 to 64: 4;
                          it makes twice as much from 2,000 keys on, until the map is in parts, but
                          not by hand */
@@ -144,6 +144,9 @@ static inline int samvolip_map_open(const samvolip_map_options *options, samvoli
     return samvolip_map_open_with(SAMVOLIP_VERSION, sizeof(samvolip_map_options),
                                   sizeof(samvolip_map_figures), options, map);
 }
+
+/* Which option is out of its range, as E_OPTIONS says, and what that is, for people; or NULL, as for options that are NULL. */
+const char *samvolip_map_wrong_option(const samvolip_map_options *options);
 
 /* Frees a map, after the last call and the last walk have ended. Threads that called it may go on,
    and end later. NULL is no map. */

@@ -268,7 +268,7 @@ static inline unsigned place_of(const samvolip_map *map, const part *one) { retu
 /* Whether a map is divided now, and the part that has this share of it then. Before and after a division that isn't in the same place: so
    if the map is divided, or is no more, after this look, the gate there is closed. */
 static inline bool is_divided(const samvolip_map *map) { return UNLIKELY(atomic_load_explicit(&map->is_divided, memory_order_relaxed)); }
-static inline part *part_of(samvolip_map *map, bool divided, unsigned share) { return &map->parts[UNLIKELY(divided) ? 1 + share : 0]; }
+static inline part *part_of(samvolip_map *map, bool divided, unsigned share) { return UNLIKELY(divided) ? &map->parts[1 + share] : map->parts; }
 
 /* Where a map has its parts, if it is divided or not. */
 static inline range places_if(bool is_divided) { return is_divided ? (range){1, PLACES} : (range){0, 1}; }

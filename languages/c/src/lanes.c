@@ -19,27 +19,44 @@ static const struct spare nobody = {.busy = RESTS_SLOWLY};
 static PER_THREAD struct spare spare = {.busy = WAITS};
 PER_THREAD struct thread *_Atomic here = (struct thread *)&nobody;
 
-static pthread_mutex_t blocks_lock = PTHREAD_MUTEX_INITIALIZER; /* of the next two; nobody takes memory with it */
+/* The first blocks are here, so that few threads take no memory. */
+enum { FIRST_BLOCKS = 32 };
+static struct block {
+    _Alignas(128) struct thread of;
+} first[FIRST_BLOCKS];
+
+static pthread_mutex_t blocks_lock = PTHREAD_MUTEX_INITIALIZER; /* of the next three; nobody takes memory with it */
 static struct thread *blocks, *free_blocks;
+static unsigned taken_first;
 
 static inline struct thread *own_spare(void) { return (struct thread *)&spare; }
+
+/* With its lock: a new block is among all. */
+static struct thread *list_block(struct block *new)
+{
+    new->of.busy = WAITS;
+    new->of.after = blocks;
+    return blocks = &new->of;
+}
 
 /* A block that no thread has, or a new one; NULL without memory. */
 static struct thread *get_block(void)
 {
     pthread_mutex_lock(&blocks_lock);
-    struct thread *block = free_blocks;
-    if (block)
-        free_blocks = block->next;
+    struct thread *found = free_blocks;
+    if (found)
+        free_blocks = found->next;
+    else if (taken_first < FIRST_BLOCKS)
+        found = list_block(&first[taken_first++]);
     pthread_mutex_unlock(&blocks_lock);
-    if (block || !(block = aligned_alloc(128, (sizeof *block + 127) / 128 * 128)))
-        return block;
-    *block = (struct thread){.busy = WAITS};
+    struct block *new = found ? NULL : aligned_alloc(_Alignof(struct block), sizeof *new);
+    if (!new)
+        return found;
+    memset(new, 0, sizeof *new);
     pthread_mutex_lock(&blocks_lock);
-    block->after = blocks;
-    blocks = block;
+    found = list_block(new);
     pthread_mutex_unlock(&blocks_lock);
-    return block;
+    return found;
 }
 
 /* The next thread that gets it is inside at first. */

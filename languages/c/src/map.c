@@ -156,21 +156,30 @@ static mixing new_mixing(uint32_t keys, const samvolip_map *map)
     return made;
 }
 
-/* Whether the memory suffices for two tables as a map has at first: else it could neither be cleared nor renewed. */
-static bool is_enough(const samvolip_map_options *read)
+/* What the options say, with the defaults in place of zeros. */
+static samvolip_map_options with_defaults(const samvolip_map_options *given)
 {
-    return read->memory == 0 || read->memory / sizeof(samvolip_entry) / 2 >= slots_of(first_exponent(read));
+    samvolip_map_options read = given ? *given : (samvolip_map_options)SAMVOLIP_MAP_OPTIONS_INIT;
+    read.room = read.room ? read.room : 1000;
+    read.growth = read.growth ? read.growth : 4;
+    read.threads = read.threads ? read.threads : 64;
+    return read;
 }
 
-/* What the options say, with the defaults in place of zeros; whether they are in range. */
-static bool read_options(const samvolip_map_options *given, samvolip_map_options *read)
+const char *samvolip_map_wrong_option(const samvolip_map_options *options)
 {
-    *read = given ? *given : (samvolip_map_options)SAMVOLIP_MAP_OPTIONS_INIT;
-    read->room = read->room ? read->room : 1000;
-    read->growth = read->growth ? read->growth : 4;
-    read->threads = read->threads ? read->threads : 64;
-    return read->room <= MOST_ROOM && read->growth >= 2 && read->growth <= 64
-        && read->threads <= SAMVOLIP_MAP_MOST_THREADS && read->keys <= SAMVOLIP_KEYS_AS_THEY_ARE && is_enough(read);
+    samvolip_map_options read = with_defaults(options);
+    if (read.room > MOST_ROOM)
+        return "room: for at most 178956970 keys";
+    if (read.growth < 2 || read.growth > 64)
+        return "growth: from 2 to 64 times";
+    if (read.threads > SAMVOLIP_MAP_MOST_THREADS)
+        return "threads: at most 240";
+    if (read.keys > SAMVOLIP_KEYS_AS_THEY_ARE)
+        return "keys: secret, mixed, or as they are";
+    if (read.memory != 0 && read.memory / sizeof(samvolip_entry) / 2 < slots_of(first_exponent(&read)))
+        return "memory: at least that of two first tables, so that a map can be cleared and renewed; with the default room 65536";
+    return NULL;
 }
 
 /* A map without a core, whose gates are closed. */
@@ -210,12 +219,12 @@ static void free_map(samvolip_map *map)
 int samvolip_map_open_with(uint32_t version, size_t options_size, size_t figures_size, const samvolip_map_options *options,
                            samvolip_map **made)
 {
-    samvolip_map_options read;
-    if (version >> 8 != SAMVOLIP_VERSION >> 8 || version > SAMVOLIP_VERSION || options_size != sizeof read
+    if (version >> 8 != SAMVOLIP_VERSION >> 8 || version > SAMVOLIP_VERSION || options_size != sizeof *options
         || figures_size != sizeof(samvolip_map_figures))
         return SAMVOLIP_E_VERSION;
-    if (!read_options(options, &read))
+    if (samvolip_map_wrong_option(options))
         return SAMVOLIP_E_OPTIONS;
+    samvolip_map_options read = with_defaults(options);
     samvolip_map *map = has_begun() ? new_map(&read) : NULL;
     if (!map)
         return SAMVOLIP_E_OUT_OF_MEMORY;

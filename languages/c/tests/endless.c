@@ -436,13 +436,17 @@ static void options_and_versions_out_of_range_are_refused(void)
 {
     const samvolip_map_options wrong[] = {{.growth = 1}, {.growth = 65}, {.growth = UINT32_MAX}, {.threads = SAMVOLIP_MAP_MOST_THREADS + 1},
                                           {.threads = UINT32_MAX}, {.keys = SAMVOLIP_KEYS_AS_THEY_ARE + 1}, {.keys = UINT32_MAX},
-                                          {.room = SAMVOLIP_MOST_KEYS + 1}, {.room = UINT64_MAX}};
+                                          {.room = SAMVOLIP_MOST_KEYS + 1}, {.room = UINT64_MAX}, {.memory = 65535}};
     const samvolip_map_options right[] = {SAMVOLIP_MAP_OPTIONS_INIT, {.growth = 2}, {.growth = 64}, {.threads = 1}, {.room = 1},
                                           {.threads = SAMVOLIP_MAP_MOST_THREADS}, {.keys = SAMVOLIP_KEYS_AS_THEY_ARE}};
     samvolip_map *map = NULL, *left = NULL;
     uint32_t versions[] = {0, SAMVOLIP_VERSION + 1, SAMVOLIP_VERSION + 0x100, SAMVOLIP_VERSION - 0x100, UINT32_MAX};
-    for (size_t i = 0; i < sizeof wrong / sizeof *wrong; i++)
+    const char *const names[] = {"growth:", "growth:", "growth:", "threads:", "threads:", "keys:", "keys:", "room:", "room:", "memory:"};
+    for (size_t i = 0; i < sizeof wrong / sizeof *wrong; i++) {
         EXPECT(samvolip_map_open(&wrong[i], &map) == SAMVOLIP_E_OPTIONS && map == left);
+        EXPECT(strncmp(samvolip_map_wrong_option(&wrong[i]), names[i], strlen(names[i])) == 0);
+    }
+    EXPECT(samvolip_map_wrong_option(NULL) == NULL);
     for (size_t i = 0; i < sizeof versions / sizeof *versions; i++)
         EXPECT(samvolip_map_open_with(versions[i], sizeof *wrong, sizeof(samvolip_map_figures), NULL, &map) == SAMVOLIP_E_VERSION);
     EXPECT(samvolip_map_open_with(SAMVOLIP_VERSION, sizeof *wrong - 8, sizeof(samvolip_map_figures), NULL, &map) == SAMVOLIP_E_VERSION);
@@ -456,9 +460,9 @@ static void options_and_versions_out_of_range_are_refused(void)
     EXPECT(samvolip_map_open(NULL, &map) == SAMVOLIP_OK && figures_of(map).slots >= 1500);
     samvolip_map_free(map);
     samvolip_map_free(NULL);
-    for (int code = SAMVOLIP_E_OPTIONS; code < 0; code++)
+    for (int code = SAMVOLIP_E_MAY_SCAN; code < 0; code++)
         EXPECT(strcmp(samvolip_map_strerror(code), "no such code") != 0);
-    EXPECT(strcmp(samvolip_map_strerror(SAMVOLIP_E_OPTIONS - 1), "no such code") == 0);
+    EXPECT(strcmp(samvolip_map_strerror(SAMVOLIP_E_MAY_SCAN - 1), "no such code") == 0);
 }
 
 static void an_array_that_is_too_small_stays_as_it_was(void)

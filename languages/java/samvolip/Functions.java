@@ -19,6 +19,7 @@ final class Functions {
 
     private static final Class<?> I = int.class, L = long.class;
     static final MethodHandle OPEN = Native.function("samvolip_map_open_with", false, I, I, L, L, L, L);
+    static final MethodHandle WRONG_OPTION = Native.function("samvolip_map_wrong_option", false, L, L);
     static final MethodHandle FREE = Native.function("samvolip_map_free", false, void.class, L);
     static final MethodHandle LEAVE = Native.function("samvolip_map_leave", false, void.class, L);
     static final MethodHandle TRY_GET = Native.function("samvolip_map_try_get_word", true, L, L, L);

@@ -70,8 +70,11 @@ public final class SamvolipMap implements AutoCloseable, Iterable<Entry> {
             Native.setInt(words + 16, options.growth());
             Native.setInt(words + 20, options.threads());
             Native.setInt(words + 24, options.keys().ordinal());
-            made((int) Functions.OPEN.invokeExact(Functions.VERSION, (long) Functions.OPTIONS_SIZE, (long) Functions.FIGURES_SIZE, words,
-                words + Functions.OPTIONS_SIZE));
+            int code = (int) Functions.OPEN.invokeExact(Functions.VERSION, (long) Functions.OPTIONS_SIZE, (long) Functions.FIGURES_SIZE, words,
+                words + Functions.OPTIONS_SIZE);
+            if (code == Code.E_OPTIONS.number())
+                throw new Refused(Code.E_OPTIONS, Native.getText((long) Functions.WRONG_OPTION.invokeExact(words)));
+            made(code);
             return Native.getLong(words + Functions.OPTIONS_SIZE);
         } catch (Throwable thrown) {
             throw Functions.wrong(thrown);

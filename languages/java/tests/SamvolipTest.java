@@ -137,6 +137,12 @@ public final class SamvolipTest {
             good.withRoom(1L << 28), good.withMemory(1000), good.withMemory(2 * 2048 * 16 - 1),
         };
         for (Options options : wrong) expect(refused(() -> new SamvolipMap(options)), Code.E_OPTIONS);
+        try {
+            new SamvolipMap(good.withThreads(241));
+            throw new AssertionError();
+        } catch (Refused refused) {
+            expect(refused.getMessage(), "threads: at most 240 (E_OPTIONS)");
+        }
         try (SamvolipMap map = new SamvolipMap(good.withRoom(20).withMemory(3 * 512))) { // a table of 32 slots, and one of 64
             expect(refused(() -> {
                 for (long key = 0; key < 100; key++) map.put(key, key);

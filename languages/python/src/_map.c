@@ -133,7 +133,6 @@ static PyObject *refuse(int code)
     switch (code) {
     case SAMVOLIP_E_OUT_OF_MEMORY: return PyErr_NoMemory();
     case SAMVOLIP_E_SUM_RANGE: PyErr_SetString(PyExc_OverflowError, "the sum is past 2**60 - 1"); return NULL;
-    case SAMVOLIP_E_OPTIONS: PyErr_SetString(PyExc_ValueError, samvolip_map_strerror(code)); return NULL;
     default: PyErr_SetString(PyExc_RuntimeError, samvolip_map_strerror(code)); return NULL;
     }
 }
@@ -556,6 +555,8 @@ static int map_init(PyObject *itself, PyObject *args, PyObject *named)
     void *state = let_go();
     int code = samvolip_map_open(&options, &map);
     take_back(state);
+    if (code == SAMVOLIP_E_OPTIONS)
+        return PyErr_SetString(PyExc_ValueError, samvolip_map_wrong_option(&options)), -1;
     if (code < 0)
         return refuse(code), -1;
     samvolip_map_lets_go(map, let_go, take_back);

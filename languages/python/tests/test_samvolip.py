@@ -209,7 +209,10 @@ class Refusals(unittest.TestCase):
             (lambda: m.put(1), "put() takes 2 arguments, not 1"),
             (lambda: m.add(), "add() takes 1 or 2 arguments, not 0"),
             (lambda: Map(keys="hashed"), "keys are one of 'secret', 'mixed', 'as they are', not 'hashed'"),
-            (lambda: Map(growth=1), "an option out of range"),
+            (lambda: Map(growth=1), "growth: from 2 to 64 times"),
+            (lambda: Map(threads=1000), "threads: at most 240"),
+            (lambda: Map(memory=65535), "memory: at least that of two first tables, so that a map can be cleared and renewed; "
+             "with the default room 65536"),
             (lambda: samvolip.Map.__new__(Map).get(1), "the map isn't open: its __init__ wasn't called"),
         ]:
             with self.assertRaises((OverflowError, TypeError, ValueError)) as raised:

@@ -72,6 +72,11 @@ final class Native {
         }
     }
 
+    /** A text of C's. */
+    static String getText(long at) {
+        return CLinker.toJavaString(MemoryAddress.ofLong(at));
+    }
+
     static long getLong(long at) {
         return MemoryAccess.getLongAtOffset(ALL, at);
     }

@@ -74,6 +74,11 @@ final class Native {
         }
     }
 
+    /** A text of C's. */
+    static String getText(long at) {
+        return ALL.getString(at);
+    }
+
     static long getLong(long at) {
         return ALL.get(ValueLayout.JAVA_LONG, at);
     }
