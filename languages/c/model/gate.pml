@@ -299,7 +299,7 @@ outside:
     if
     :: atomic { read_or_write(); goto asks }
 #ifdef HANDLERS
-    :: atomic { at == 0 && !heap -> heap = true; at = 6; read_or_write(); what = READS; goto asks } /* a handler reads, which interrupted malloc */
+    :: atomic { at == 0 && !heap -> heap = true; at = 6; read_or_write(); what = READS; goto asks } /* a handler within malloc reads */
 #endif
 #ifndef LANES_ARE_KEPT
     :: atomic { !locked && mine != 0 && at == 0 -> give_back(); goto outside }

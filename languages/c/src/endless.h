@@ -134,9 +134,9 @@ struct samvolip_map_walk {
 
 #pragma GCC visibility push(hidden)
 
-/* What a thread has. Others look at its busy word, at times when it has ended without a word: in the last round of its keys' destructors.
-   So it lies in a block that is never unmapped, which the next thread gets. A thread that has no block, since it ends or there is no memory,
-   has the first two fields alone, and no lane of its own. */
+/* What a thread has. Others look at its busy word, also when it has ended without a word, after the last round of its keys' destructors.
+   So it lies in a block that is never unmapped, which the next thread gets. A thread that has no block, since it ends or there is no
+   memory, has the first two fields alone, and no lane of its own. */
 struct thread {
     _Atomic(uintptr_t) busy;
     lane *shared;            /* the lane that it shares, during a call */
@@ -268,7 +268,10 @@ static inline unsigned place_of(const samvolip_map *map, const part *one) { retu
 /* Whether a map is divided now, and the part that has this share of it then. Before and after a division that isn't in the same place: so
    if the map is divided, or is no more, after this look, the gate there is closed. */
 static inline bool is_divided(const samvolip_map *map) { return UNLIKELY(atomic_load_explicit(&map->is_divided, memory_order_relaxed)); }
-static inline part *part_of(samvolip_map *map, bool divided, unsigned share) { return UNLIKELY(divided) ? &map->parts[1 + share] : map->parts; }
+static inline part *part_of(samvolip_map *map, bool divided, unsigned share)
+{
+    return UNLIKELY(divided) ? &map->parts[1 + share] : map->parts;
+}
 
 /* Where a map has its parts, if it is divided or not. */
 static inline range places_if(bool is_divided) { return is_divided ? (range){1, PLACES} : (range){0, 1}; }

@@ -19,6 +19,8 @@
 #include <time.h>
 #include <unistd.h>
 
+FORKS
+
 enum { PATIENCE = 120, WORKERS = 4, KEYS = 1000 };
 
 static double seconds = 0.5;
@@ -398,7 +400,8 @@ static void a_read_may_be_one_that_does_not_wait(void)
     EXPECT(samvolip_map_try_get_word(map, 1) == SAMVOLIP_E_MAY_SCAN && samvolip_map_contains(map, 1) == 1);
     samvolip_map_free(map);
     map = open_map(1, 4);
-    EXPECT(samvolip_map_renew(map, UINT64_C(1) << 40) == SAMVOLIP_E_OUT_OF_MEMORY && samvolip_map_try_get_word(map, 1) == SAMVOLIP_E_WOULD_WAIT);
+    EXPECT(samvolip_map_renew(map, UINT64_C(1) << 40) == SAMVOLIP_E_OUT_OF_MEMORY);
+    EXPECT(samvolip_map_try_get_word(map, 1) == SAMVOLIP_E_WOULD_WAIT); /* the map is as it was */
     samvolip_map_free(map);
 }
 

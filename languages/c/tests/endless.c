@@ -24,6 +24,8 @@ enum { IS_DIVIDED_EARLY = true };
 enum { IS_DIVIDED_EARLY = false };
 #endif
 
+FORKS
+
 enum { MOST_WORKERS = 300, ARRIVE = 40, SHARED_KEYS = 100, KEPT = 40, PAIRS = 1000, PUBLISHED = 2000, OWN = 100000 };
 
 static double seconds = 0.35;

@@ -22,6 +22,15 @@ static inline void expect_failed(const char *file, int line, const char *conditi
 #define IS_SANITIZED 0
 #endif
 
+/* In the child of a fork the threads of its parent that had ended, and weren't joined, are no leak: a test that forks has this line. */
+#ifdef __SANITIZE_THREAD__
+#define FORKS \
+    const char *__tsan_default_options(void); \
+    const char *__tsan_default_options(void) { return "report_thread_leaks=0"; }
+#else
+#define FORKS
+#endif
+
 /* How many MiB of addresses the process has, and how many of them are in memory. Of a program under a
    sanitizer, which has much memory of its own beside the program's, both are 0. */
 struct mebibytes {

@@ -14,7 +14,7 @@ final class Functions {
     /** What a call answers where there is no number. */
     static final long NONE = Long.MIN_VALUE;
 
-    /** What TRY_GET answers where GET is the call to make, and the virtual machine is to know of it: that may wait, or look at many slots. */
+    /** What TRY_GET answers where GET is the call to make, of which the virtual machine is told: it may wait, or look at many slots. */
     static final long WOULD_WAIT = -24, MAY_SCAN = -25;
 
     private static final Class<?> I = int.class, L = long.class;

@@ -33,7 +33,7 @@ public final class SamvolipMap implements AutoCloseable, Iterable<Entry> {
     private final long at;
     private final Cleaner.Cleanable freed;
     private volatile boolean isClosed;
-    /** Whether its table may come to be full, since memory is bounded or was refused: then a read of a key that isn't there may take long. */
+    /** Whether its table may come to be full, as memory is bounded or was refused: then a read of a key that isn't there may take long. */
     private boolean mayBeFull;
 
     /** What a call does with each key and its number. */
@@ -70,8 +70,8 @@ public final class SamvolipMap implements AutoCloseable, Iterable<Entry> {
             Native.setInt(words + 16, options.growth());
             Native.setInt(words + 20, options.threads());
             Native.setInt(words + 24, options.keys().ordinal());
-            int code = (int) Functions.OPEN.invokeExact(Functions.VERSION, (long) Functions.OPTIONS_SIZE, (long) Functions.FIGURES_SIZE, words,
-                words + Functions.OPTIONS_SIZE);
+            int code = (int) Functions.OPEN.invokeExact(Functions.VERSION, (long) Functions.OPTIONS_SIZE, (long) Functions.FIGURES_SIZE,
+                words, words + Functions.OPTIONS_SIZE);
             if (code == Code.E_OPTIONS.number())
                 throw new Refused(Code.E_OPTIONS, Native.getText((long) Functions.WRONG_OPTION.invokeExact(words)));
             made(code);
