@@ -35,7 +35,7 @@ inside_memory   sources
 inside_objects  sources
 memory          refused
 endless_memory  refused_parts
-edges_memory    refused
+refused_handlers archive
 TABLE
 }
 

@@ -277,6 +277,13 @@ static void a_handler_may_read_where_a_lane_is_free(void)
 
 /* ---- ends of threads ----------------------------------------------------------------------- */
 
+/* The thread sanitizer has ended for a thread by its last round. */
+#ifdef __SANITIZE_THREAD__
+enum { HAS_LAST_ROUND = false };
+#else
+enum { HAS_LAST_ROUND = true };
+#endif
+
 static pthread_key_t last;
 
 /* Comes again until the last round, and makes the thread's first call then. */
@@ -315,6 +322,8 @@ static void run_on_own_pages(void *(*work)(void *))
 
 static void a_first_call_may_come_last_of_all(void)
 {
+    if (!HAS_LAST_ROUND)
+        return;
     map = open_map(1, 20);
     put_keys(map, 2);
     EXPECT(pthread_key_create(&last, call_at_last) == 0);
@@ -337,6 +346,8 @@ static void *call_and_end(void *unused)
 
 static void calls_may_follow_the_end_of_a_thread(void)
 {
+    if (!HAS_LAST_ROUND)
+        return;
     map = open_map(1, 4);
     put_keys(map, 2);
     EXPECT(pthread_key_create(&last, call_at_last) == 0);
@@ -572,10 +583,8 @@ static const struct {
     TEST(a_fork_goes_on_beside_handlers_that_read),
     TEST(a_fork_stops_no_map_while_another_is_renewed),
     TEST(a_handler_may_read_where_a_lane_is_free),
-#if !defined(__SANITIZE_THREAD__) /* which has ended for the thread by then */
     TEST(a_first_call_may_come_last_of_all),
     TEST(calls_may_follow_the_end_of_a_thread),
-#endif
     TEST(a_map_is_refused_without_keys_of_pthread),
     TEST(memory_for_less_than_two_tables_is_refused),
     TEST(a_read_may_be_one_that_does_not_wait),

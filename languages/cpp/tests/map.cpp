@@ -325,13 +325,13 @@ void opens_and_moves()
     EXPECT(is_refused(refused, fault::options) && std::string(refused.error().message()) == "an option out of range");
     options = {};
     options.memory = 1000;
-    EXPECT(is_refused(samvolip::map::open(options), fault::out_of_memory));
+    EXPECT(is_refused(samvolip::map::open(options), fault::options));
 #ifdef __cpp_exceptions
     bool thrown = false;
     try {
         samvolip::map never(options);
     } catch (const samvolip::refused &what) {
-        thrown = what.error().why() == fault::out_of_memory && std::string(what.what()) == "samvolip: out of memory";
+        thrown = what.error().why() == fault::options && std::string(what.what()) == "samvolip: an option out of range";
     }
     EXPECT(thrown);
 #endif

@@ -15,6 +15,8 @@ import copy
 import heapq
 import itertools
 import operator
+import os
+import weakref
 from array import array
 from collections.abc import Callable, ItemsView, Iterable, Iterator, KeysView, Mapping, MutableMapping, ValuesView
 from typing import Any, NamedTuple, Protocol, SupportsIndex, TypeVar
@@ -104,6 +106,22 @@ class _Values(ValuesView[int]):
         return Walk(self._mapping, _VALUES)
 
 
+_maps: weakref.WeakValueDictionary[int, Map] = weakref.WeakValueDictionary()
+_LARGE = 1 << 17  # slots of a table, from which on a renewal takes milliseconds
+
+
+def _before_fork() -> None:
+    """A fork waits for renewals, and has the interpreter's lock. So those of large maps are waited for here, without it."""
+    for map_of in _maps.valuerefs():
+        one = map_of()
+        if one is not None and one.figures().slots >= _LARGE:
+            len(one)
+
+
+if hasattr(os, "register_at_fork"):
+    os.register_at_fork(before=_before_fork)
+
+
 class Map(Base, MutableMapping[int, int]):  # type: ignore[misc]
     """A map that any thread may call. Keys go from 0 to KEY_MAX, numbers to VALUE_MAX.
 
@@ -144,6 +162,7 @@ class Map(Base, MutableMapping[int, int]):  # type: ignore[misc]
     def _open(self, options: tuple[SupportsIndex, ...]) -> None:
         super().__init__(*options)
         self._options, self._shown = options, []
+        _maps[id(self)] = self
 
     @classmethod
     def fromkeys(cls: type[_Self], keys: Iterable[SupportsIndex], number: SupportsIndex = 0, /) -> _Self:

@@ -260,7 +260,7 @@ class Refusals(unittest.TestCase):
             m.popitem()
         m.renew()
         m.update(dict.fromkeys(range(10**6, 10**6 + 500), 1))
-        self.assertRaises(MemoryError, Map, memory=1)
+        self.assertRaises(ValueError, Map, memory=1)
 
 
 class Mapping(unittest.TestCase):
@@ -769,6 +769,39 @@ class Forks(unittest.TestCase):
             thread.join()
         self.assertEqual(statuses, [0] * 10)
         self.assertEqual((m[5], len(m)), (5, 1304))
+
+    def test_others_go_on_while_a_fork_waits(self):
+        m, goes_on, ticks, waits = Map(room=1_500_000), [True], [0], 0
+        m.put_many(range(1_500_000), 1)
+
+        def renew() -> None:
+            while goes_on[0]:
+                m.renew()
+                time.sleep(0.05)
+
+        def tick() -> None:
+            while goes_on[0]:
+                ticks[0] += 1
+                time.sleep(0.001)
+
+        threads = [threading.Thread(target=work, daemon=True) for work in (renew, tick)]
+        for thread in threads:
+            thread.start()
+        for _ in range(20):
+            before, began = ticks[0], time.monotonic()
+            pid = os.fork()
+            if pid == 0:
+                os._exit(0)
+            if time.monotonic() - began > 0.1:  # it has waited for a renewal
+                self.assertGreater(ticks[0] - before, 3)
+                waits += 1
+            self.assertEqual(os.waitpid(pid, 0)[1], 0)
+            if waits == 3:
+                break
+            time.sleep(0.02)
+        goes_on[0] = False
+        for thread in threads:
+            thread.join()
 
     def test_multiprocessing(self):
         m = Map({1: 2})

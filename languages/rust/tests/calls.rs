@@ -245,10 +245,11 @@ fn panics() {
     assert_eq!(panic_of(|| map.update(1, |_| Some(u64::MAX))), value);
     assert_eq!(panic_of(|| (&map).extend([(u64::MAX, 1)])), key);
     assert_eq!(panic_of(|| Map::from([(u64::MAX, 1)])), key);
-    let full = Map::with_options(Options::new().room(21).memory(32 * 16)).unwrap();
+    let full = Map::with_options(Options::new().room(21).memory(64 * 16)).unwrap();
     full.try_extend((0..32).map(|key| (key, key))).unwrap();
     let memory = "samvolip: there is no memory for the map's tables";
     assert_eq!(panic_of(|| full.insert(32, 1)), memory);
+    let (full, _) = large_and_full();
     assert_eq!(panic_of(|| full.clear()), memory);
     assert_eq!(panic_of(|| full.drain()), memory);
     // so may the functions that are given to a call
@@ -267,22 +268,29 @@ fn options() {
         assert_eq!(refused(Options::new().threads(threads)), Error::Options);
     }
     assert_eq!(refused(Options::new().room(usize::MAX)), Error::Options);
-    assert_eq!(refused(Options::new().memory(0)), Error::OutOfMemory);
-    assert_eq!(refused(Options::new().memory(32 * 1024 - 1)), Error::OutOfMemory);
+    assert_eq!(refused(Options::new().memory(0)), Error::Options);
+    assert_eq!(refused(Options::new().memory(64 * 1024 - 1)), Error::Options);
     let slots = |options: Options| Map::with_options(options).unwrap().figures().slots;
     assert_eq!(
         (slots(Options::new()), slots(Options::new().room(0)), slots(Options::new().room(100_000))),
         (2048, 32, 1 << 18)
     );
     let largest = Options::new().growth(64).threads(240).memory(usize::MAX);
-    assert_eq!(slots(largest.growth(2).threads(1).memory(32 * 1024)), 2048);
+    assert_eq!(slots(largest.growth(2).threads(1).memory(64 * 1024)), 2048);
     assert_eq!(slots(largest), 2048);
 }
 
-/// A map that may have no more memory than its first table takes: 32 slots.
+/// A map in parts that has no memory left, not even for empty tables in place of what it has; and how many keys, from 0 on.
+fn large_and_full() -> (Map, u64) {
+    let map = Map::with_options(Options::new().room(100_000).memory(2 * 262_144 * 16)).unwrap();
+    let count = (0..).find(|&key| map.try_insert(key, key).is_err()).unwrap();
+    (map, count)
+}
+
+/// A map that may have no more memory than two first tables take, of 32 slots each.
 #[test]
 fn no_memory() {
-    let map = Map::with_options(Options::new().room(21).memory(32 * 16)).unwrap();
+    let map = Map::with_options(Options::new().room(21).memory(64 * 16)).unwrap();
     let refused = (0..).find(|&key| map.try_insert(key, key) == Err(Error::OutOfMemory)).unwrap();
     assert_eq!(refused, 32);
     assert!(sorted(&map).into_iter().eq((0..refused).map(|key| (key, key))));
@@ -292,10 +300,10 @@ fn no_memory() {
     assert_eq!(map.try_compare_exchange(refused, None, Some(1)), Err(Error::OutOfMemory));
     assert_eq!(map.try_update(refused, |_| Some(1)), Err(Error::OutOfMemory));
     assert_eq!(map.try_extend([(1, 9), (refused, 1)]), Err(Error::OutOfMemory));
-    assert_eq!(
-        (map.try_drain(), map.try_clear(), map.renew(0)),
-        (Err(Error::OutOfMemory), Err(Error::OutOfMemory), Err(Error::OutOfMemory))
-    );
+    assert_eq!(map.renew(0), Err(Error::OutOfMemory));
+    let (large, count) = large_and_full();
+    assert_eq!((large.try_drain(), large.try_clear()), (Err(Error::OutOfMemory), Err(Error::OutOfMemory)));
+    assert_eq!((large.len(), large.get(0), large.get(count - 1)), (count as usize, Some(0), Some(count - 1)));
     assert_eq!((map.figures().renewals, map.figures().refused > 0), (0, true));
     // all that needs no slot is made
     assert_eq!((map.insert(1, 2), map.replace(refused, 1), map.remove(2), map.insert(2, 3)), (Some(9), None, Some(2), None));

@@ -589,7 +589,7 @@ mod signals {
 /// A map that may have no more memory refuses new keys alike by all threads, and goes on.
 #[test]
 fn no_memory_for_many() {
-    let map = Map::with_options(Options::new().room(600).memory(1024 * 16)).unwrap();
+    let map = Map::with_options(Options::new().room(600).memory(2 * 1024 * 16)).unwrap();
     let refused = AtomicU64::new(0);
     in_threads(8, |number| {
         for key in (0..3200).skip(number as usize).step_by(8) {
