@@ -1,6 +1,7 @@
 """The wrong edits of the crates. Each is a name and its changes: a file of the crate, a text that is in it once, and the text that
 takes its place. Those that the gate tries are files of their own, crates/NAME/must-fail/EDIT.edit, with lines 'file:', 'old:' and
-'new:'. The others of a crate are in one file, .ci/more-edits/NAME.edits, where a line 'edit: EDIT' begins each."""
+'new:'. The others of a crate, of which the gate tries a few, are in one file, .ci/more-edits/NAME.edits, where a line
+'edit: EDIT' begins each."""
 
 from sources import CRATES, TOP, text_of  # beside this file
 
