@@ -1,5 +1,0 @@
-use Rattle.nb_map.specs.Promises.{ahead_of}
-use Rattle.nb_calls.proofs.tests.walks.sums_by.Given as goal
-
-abbrev pub decreases-loop-key : goal.decreases-loop-key
-decreases-loop-key l = ahead_of l.walk
