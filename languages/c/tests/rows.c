@@ -1,5 +1,5 @@
 /* Rows of calls with their answers, and what they leave: tables over one small interpreter. A row is made by one of two seats, one
-   after another, or by two threads at once. What only the calls of nb_map can do is in crates/nb_calls. */
+   after another, or by two threads at once. What only the calls of nb_map can do is in crates/nb_map_tests. */
 #include "samvolip.h"
 
 #include "expect.h"
