@@ -9,8 +9,6 @@ mod counting;
 mod faults;
 mod gathered;
 mod guest;
-#[cfg(test)]
-mod guest_tests;
 mod hall;
 mod lasting;
 pub mod laws;
@@ -21,8 +19,6 @@ mod settling;
 mod shapes;
 mod shared;
 mod shared_lasting;
-#[cfg(test)]
-mod tests;
 mod through;
 
 pub use faults::{GrowFault, WriteFault};

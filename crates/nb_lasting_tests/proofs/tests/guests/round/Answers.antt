@@ -1,5 +1,5 @@
 use Rattle.std.proofs.Common.{◌∙◌}
-use Rattle.nb_lasting.proofs.guest_tests.round.Goals as goal
+use Rattle.nb_lasting_tests.proofs.tests.guests.round.Goals as goal
 
 pub returns : goal.returns
 returns g c =

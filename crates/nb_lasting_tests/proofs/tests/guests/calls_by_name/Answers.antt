@@ -1,5 +1,5 @@
 use Rattle.std.proofs.Common.{◌∙◌}
-use Rattle.nb_lasting.proofs.guest_tests.calls_by_name.Goals as goal
+use Rattle.nb_lasting_tests.proofs.tests.guests.calls_by_name.Goals as goal
 
 pub returns : goal.returns
 returns g c =

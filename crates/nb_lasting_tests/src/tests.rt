@@ -1,0 +1,3 @@
+//! Tests of the map without an end.
+mod guests;
+mod owner;

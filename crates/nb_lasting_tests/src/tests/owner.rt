@@ -1,0 +1,164 @@
+//! The map without an end beside a plain map, through dozens of renewals, and where memory is
+//! refused.
+use nb_core::{Change, Key, Num, PlainFault, PlainMap, VALUE_MAX, Want};
+use nb_lasting::{GrowFault, Lasting, WriteFault};
+use std::alloc::Global;
+use std::process::Abort;
+use std::sync::Wait;
+
+/// An empty map that is made anew soon, also where one request for memory is refused.
+fn opened<R: Abort>(rt: &R, alloc: Global) -> Lasting {
+    for _attempt in 0..2 {
+        if let Ok(lasting) = Lasting::open(alloc, 0) {
+            return lasting;
+        }
+    }
+    panic!(rt; "memory")
+}
+
+/// Both maps reply the same, and have the same at the key then.
+fn both<R: Abort>(rt: &R, lasting: &mut Lasting, plain: &mut PlainMap, key: Key, chance: u64) {
+    let (want, change) = write_of(chance);
+    let due = plain.apply(key, want, change);
+    match lasting.put_if_match(key, want, change) {
+        Ok(reply) => assert!(rt; due == Ok(reply)),
+        Err(fault) => {
+            assert!(rt; fault == WriteFault::ValueRange && due == Err(PlainFault::ValueRange))
+        }
+    }
+    let found = lasting.get(key);
+    assert!(rt; found == plain.get(key));
+}
+
+/// A write that comes with a number by chance.
+fn write_of(chance: u64) -> (Want, Change) {
+    let number = Num::from((chance >> 20 & 3) as u32);
+    match chance >> 60 {
+        0..=4 => (Want::Any, Change::Put(number)),
+        5 => (Want::Absent, Change::Put(number)),
+        6 => (Want::Present, Change::Put(number)),
+        7 => (Want::Equal(number), Change::Put(Num::from(9_u32))),
+        8..=12 => (Want::Any, Change::Remove),
+        13 => (Want::Equal(number), Change::Remove),
+        _ => (Want::Any, Change::Add(number)),
+    }
+}
+
+/// In the end both have the same entries.
+fn same_end<R: Abort + Wait>(rt: &R, alloc: Global, lasting: Lasting, plain: &PlainMap) {
+    let ended = lasting.close(rt);
+    assert!(rt; ended.size() == plain.len() as u64);
+    let (Ok(entries), Ok(due)) = (ended.entries(alloc), plain.entries(alloc)) else {
+        panic!(rt; "memory");
+    };
+    assert!(rt; entries.as_slice() == due.as_slice());
+}
+
+/// Whatever is called, the map replies as a plain one.
+#[test]
+fn replies_as_a_plain_map(rt: HostRuntime) {
+    let mut lasting = opened(&rt, rt.alloc());
+    let mut plain = PlainMap::new(rt.alloc());
+    let mut chance = 1_u64;
+    for _ in 0..30_000_u32 {
+        chance = chance
+            .wrapping_mul(6364136223846793005)
+            .wrapping_add(1442695040888963407);
+        let key = Key::from((chance >> 33) as u32 % 3000);
+        both(&rt, &mut lasting, &mut plain, key, chance);
+    }
+    same_end(&rt, rt.alloc(), lasting, &plain);
+}
+
+/// Ten keys at a time, and 40,000 in all, come and go in tables of 2^10 slots: the map is made anew
+/// dozens of times. Then it takes many.
+#[test]
+fn renewed_dozens_of_times(rt: HostRuntime) {
+    let mut lasting = opened(&rt, rt.alloc());
+    for word in 0..40_000_u32 {
+        let (key, number) = (Key::from(word), Num::from(word));
+        assert!(rt; lasting.put(key, number) == Ok(None));
+        if word >= 10 {
+            let gone = lasting.remove(Key::from(word - 10));
+            assert!(rt; gone == Some(Num::from(word - 10)));
+        }
+    }
+    assert!(rt; lasting.size() == Ok(10));
+    for word in 40_000..140_000_u32 {
+        assert!(rt; lasting.put(Key::from(word), Num::from(word)) == Ok(None));
+    }
+    for word in 39_990..140_000_u32 {
+        assert!(rt; lasting.get(Key::from(word)) == Some(Num::from(word)));
+    }
+    let listed = lasting.entries();
+    assert!(rt; listed.is_ok_and(|entries| entries.len() == 100_010));
+}
+
+/// Each call by its name, and the one refusal that needs no memory.
+#[test]
+fn calls_by_name(rt: HostRuntime) {
+    let mut lasting = opened(&rt, rt.alloc());
+    let key = Key::from(7_u32);
+    let (one, two, most) = (Num::from(1_u32), Num::from(2_u32), Num::new(VALUE_MAX));
+    let most = most.expect(&rt, "a number");
+    assert!(rt; lasting.replace(key, one).is_none());
+    assert!(rt; lasting.put(key, one) == Ok(None));
+    assert!(rt; lasting.put_if_absent(key, two) == Ok(Some(one)));
+    assert!(rt; lasting.replace(key, two) == Some(one));
+    assert!(rt; !lasting.replace_if(key, one, most));
+    assert!(rt; lasting.replace_if(key, two, most));
+    assert!(rt; lasting.add(key, one) == Err(WriteFault::ValueRange));
+    assert!(rt; lasting.get(key) == Some(most));
+    assert!(rt; !lasting.remove_if(key, one));
+    assert!(rt; lasting.remove_if(key, most));
+    assert!(rt; lasting.remove(key).is_none());
+    assert!(rt; lasting.add(key, two) == Ok(None));
+    assert!(rt; lasting.remove(key) == Some(two));
+    assert!(rt; lasting.close(&rt).is_empty());
+}
+
+/// Puts a key that is absent, again where memory was refused: then it is absent still.
+fn put_again<R: Abort>(rt: &R, lasting: &mut Lasting, word: u32) {
+    let (key, number) = (Key::from(word), Num::from(word));
+    let found = lasting.put(key, number);
+    if found == Err(GrowFault::OutOfMemory) {
+        assert!(rt; lasting.get(key).is_none());
+        assert!(rt; lasting.put(key, number) == Ok(None));
+        return;
+    }
+    assert!(rt; found == Ok(None));
+}
+
+/// Whichever one request for memory is refused, the map goes on: the write that was refused is made
+/// again (`rt try --test --fail-alloc N -- refused_memory`).
+#[test]
+fn refused_memory(rt: HostRuntime) {
+    let mut lasting = opened(&rt, rt.alloc());
+    for word in 0..300_u32 {
+        put_again(&rt, &mut lasting, word);
+    }
+    for word in 0..300_u32 {
+        assert!(rt; lasting.get(Key::from(word)) == Some(Num::from(word)));
+    }
+    assert!(rt; lasting.size() == Ok(300) || lasting.size() == Ok(300));
+    assert!(rt; lasting.close(&rt).size() == 300);
+}
+
+/// Maps may go to other threads.
+#[test]
+fn maps_of_threads(rt: HostRuntime) {
+    let Ok(mut maps) = vec![in rt.alloc(); opened(&rt, rt.alloc()), opened(&rt, rt.alloc())] else {
+        panic!(rt; "memory");
+    };
+    std::thread::for_each_mut(
+        &rt,
+        maps.as_mut_slice(),
+        2,
+        &|_, map: &mut Lasting| {
+            let _ = map.put(Key::from(1_u32), Num::from(2_u32));
+        },
+    );
+    for map in maps {
+        assert!(rt; map.close(&rt).size() == 1);
+    }
+}
