@@ -1,15 +1,10 @@
-//! What no clause says of the lower crates: fixed values, texts, refused memory, threads.
+//! Tests of the lowest libraries: numbers and shapes, words of slots, the plain map, the counter,
+//! the chain, lines.
 mod chain;
-mod churn;
-mod conversions;
 mod counter;
-mod digits;
 mod lines;
-mod mixing;
 mod numbers;
 mod plain;
-mod seats;
 mod shapes;
 mod slot_words;
 mod texts;
-mod wide;

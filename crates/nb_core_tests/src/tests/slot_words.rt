@@ -1,27 +1,15 @@
-//! The words of slots.
+//! The words of slots. A state and its word belong together, each by both ways.
 use nb_core::{
     KEY_MAX, Key, KeyState, KeyWord, Num, VALUE_MAX, ValueState, ValueWord, decode_key,
     decode_value, encode_key, encode_value,
 };
-use std::test::Fail;
 
-/// Whether a state of a key and a word belong together, each by both ways.
-fn are_one_key(state: &KeyState, word: u64) -> bool {
-    KeyWord::of(*state).get() == word
-        && KeyWord::new(word).state() == *state
-        && encode_key(*state) == word
-        && decode_key(word) == *state
-}
-
-/// Whether a word is empty, whether it is the key's, and whether it is one of both.
-fn tests_of(word: KeyWord, key: Key) -> (bool, bool, bool) {
-    (word.is_empty(), word.is(key), word.is_or_empty(key))
-}
-
-/// Words of keys, and `tests_of_key_words` for the key 0.
+/// Words of keys, and `tests_of_key_words`: whether a word is empty, whether it is the key 0's, and
+/// whether it is one of both.
 #[test]
-fn key_words(rt: HostRuntime) -> Result<(), Fail> {
+fn key_words(rt: HostRuntime) {
     let zero = Key::from(0_u32);
+    let greatest = Key::new(KEY_MAX).expect(&rt, "a key");
     for (state, word, tests) in [
         (KeyState::Empty, 0, (true, false, true)),
         (KeyState::Dead, 1, (false, false, false)),
@@ -31,30 +19,27 @@ fn key_words(rt: HostRuntime) -> Result<(), Fail> {
             3,
             (false, false, false),
         ),
-        (
-            KeyState::Claimed(Key::new(KEY_MAX)?),
-            u64::MAX,
-            (false, false, false),
-        ),
+        (KeyState::Claimed(greatest), u64::MAX, (false, false, false)),
     ] {
-        assert!(rt; are_one_key(&state, word), "{word}");
-        assert!(rt; tests_of(KeyWord::of(state), zero) == tests, "{word}");
+        let made = KeyWord::of(state);
+        assert!(rt;
+            made.get() == word && KeyWord::new(word).state() == state,
+            "{word}"
+        );
+        assert!(rt;
+            encode_key(state) == word && decode_key(word) == state,
+            "{word}"
+        );
+        let told = (made.is_empty(), made.is(zero), made.is_or_empty(zero));
+        assert!(rt; told == tests, "{word}");
     }
-    Ok(())
 }
 
-/// Whether a state of a value and a word belong together, each by both ways.
-fn are_one_value(state: &ValueState, word: u64) -> bool {
-    ValueWord::of(*state).get() == word
-        && ValueWord::of(*state).state() == *state
-        && encode_value(*state) == word
-        && decode_value(word) == Some(*state)
-}
-
+/// Words of values and what they show, and words of none.
 #[test]
-fn value_words(rt: HostRuntime) -> Result<(), Fail> {
+fn value_words(rt: HostRuntime) {
     let five = Num::from(5_u32);
-    let greatest = Num::new(VALUE_MAX)?;
+    let greatest = Num::new(VALUE_MAX).expect(&rt, "a number");
     for (state, word, shown) in [
         (ValueState::Null, 0, Some(None)),
         (ValueState::PrimedNull, 1, None),
@@ -65,19 +50,19 @@ fn value_words(rt: HostRuntime) -> Result<(), Fail> {
         (ValueState::Finished(five), 31, None),
         (
             ValueState::Live(greatest),
-            4611686018427387908,
+            4_611_686_018_427_387_908,
             Some(Some(greatest)),
         ),
     ] {
-        assert!(rt; are_one_value(&state, word), "{word}");
-        assert!(rt; ValueWord::of(state).shows() == shown, "{word}");
+        let made = ValueWord::of(state);
+        assert!(rt; made.get() == word && made.state() == state, "{word}");
+        assert!(rt; encode_value(state) == word, "{word}");
+        assert!(rt;
+            decode_value(word) == Some(state) && made.shows() == shown,
+            "{word}"
+        );
     }
-    Ok(())
-}
-
-#[test]
-fn words_of_no_value(rt: HostRuntime) {
-    for word in [2, 3, 6, 7, 30, 4611686018427387912] {
+    for word in [2, 3, 6, 7, 30, 4_611_686_018_427_387_912] {
         assert!(rt; decode_value(word).is_none(), "{word}");
     }
 }

@@ -1,40 +1,29 @@
 //! What the faults of `nb_core` and of `nb_lines` say.
-use nb_core::{DigitsFault, OutOfMemory, PlainFault, RangeFault, ShapeFault};
+use nb_core::{DigitsFault, NotAll, PlainFault, RangeFault, ShapeFault};
 use nb_lines::{Cause, ProgramFault, WordsFault};
 use std::alloc::Global;
+use std::error::Error;
 use std::fmt::Display;
 use std::process::Abort;
-use std::test::Fail;
 
 /// Each of these says its line of the text.
-fn assert_said<T: Display>(
-    rt: &impl Abort,
-    alloc: Global,
-    faults: &[T],
-    text: &str,
-) -> Result<(), OutOfMemory> {
+fn assert_said<T: Display>(rt: &impl Abort, alloc: Global, faults: &[T], text: &str) {
     let mut said = String::new(alloc);
     for fault in faults {
-        writeln!(said, "{fault}")?;
+        writeln!(said, "{fault}").expect(rt, "memory");
     }
     assert!(rt; said.as_str() == text, "{text}");
-    Ok(())
 }
 
 #[test]
-fn fault_texts(rt: HostRuntime) -> Result<(), Fail> {
+fn fault_texts(rt: HostRuntime) {
     let ranges = [RangeFault::KeyRange, RangeFault::ValueRange];
-    assert_said(&rt, rt.alloc(), &ranges, "key too large\nvalue too large\n")?;
+    assert_said(&rt, rt.alloc(), &ranges, "key too large\nvalue too large\n");
     let plain = [PlainFault::OutOfMemory, PlainFault::ValueRange];
-    assert_said(&rt, rt.alloc(), &plain, "out of memory\nvalue too large\n")?;
+    assert_said(&rt, rt.alloc(), &plain, "out of memory\nvalue too large\n");
     let digits = [DigitsFault::NotANumber, DigitsFault::TooLarge];
-    assert_said(&rt, rt.alloc(), &digits, "not a number\nnumber too large\n")?;
-    Ok(())
-}
-
-#[test]
-fn fault_texts_of_shapes(rt: HostRuntime) -> Result<(), Fail> {
-    let faults = [
+    assert_said(&rt, rt.alloc(), &digits, "not a number\nnumber too large\n");
+    let shapes = [
         ShapeFault::Bits,
         ShapeFault::Generations,
         ShapeFault::Seats,
@@ -49,12 +38,25 @@ fn fault_texts_of_shapes(rt: HostRuntime) -> Result<(), Fail> {
         number of stripes out of range\na table smaller than the one before it\n\
         reprobe limit out of range\nchunk out of range\nnumber of keys out of range\n\
         too many slots\n";
-    assert_said(&rt, rt.alloc(), &faults, text)?;
-    Ok(())
+    assert_said(&rt, rt.alloc(), &shapes, text);
+}
+
+/// Only an error gets through.
+fn error<E: Error>(error: &E) -> &E {
+    error
 }
 
 #[test]
-fn fault_texts_of_lines(rt: HostRuntime) -> Result<(), Fail> {
+fn not_all_is_an_error(rt: HostRuntime) {
+    let seats = vec![in rt.alloc(); 3_u8].expect(&rt, "memory");
+    let missing = NotAll { whole: 7_u8, seats };
+    let told = error(&missing);
+    let shown = format!(in rt.alloc(); "{told}: {told:?}").expect(&rt, "memory");
+    assert!(rt; shown.as_str() == "not all seats were there, or too many: NotAll { seats: 1, .. }");
+}
+
+#[test]
+fn fault_texts_of_programs(rt: HostRuntime) {
     let causes = [
         Cause::NotANumber,
         Cause::TooLarge,
@@ -65,12 +67,9 @@ fn fault_texts_of_lines(rt: HostRuntime) -> Result<(), Fail> {
     ];
     let text = "not a number\nnumber too large\nline too long\nneither get nor put\n\
         get without a key\nput without a key\n";
-    assert_said(&rt, rt.alloc(), &causes, text)?;
-    Ok(())
-}
-
-#[test]
-fn fault_texts_of_programs(rt: HostRuntime) -> Result<(), Fail> {
+    assert_said(&rt, rt.alloc(), &causes, text);
+    let help = String::from_str(rt.alloc(), "a help\n").expect(&rt, "memory");
+    let wrong = String::from_str(rt.alloc(), "--top 0: not from 1 to 9").expect(&rt, "memory");
     let faults = [
         ProgramFault::Words(WordsFault::NoText),
         ProgramFault::Words(WordsFault::OutOfMemory),
@@ -83,20 +82,14 @@ fn fault_texts_of_programs(rt: HostRuntime) -> Result<(), Fail> {
         ProgramFault::MemoryLimit(12),
         ProgramFault::Unshown,
         ProgramFault::OutOfMemory,
+        ProgramFault::Words(WordsFault::Answered(help)),
+        ProgramFault::Words(WordsFault::Wrong(wrong)),
     ];
     let text = "a word isn't text; --help tells more\nout of memory\nbad usage; --help tells more\n\
         read failed\nwrite failed\nline 12: line too long\n\
         more different numbers than there is room for\na number comes too often\n\
         stopped behind line 12: more may not fit within --memory\n\
-        a value isn't shown\nout of memory\n";
-    assert_said(&rt, rt.alloc(), &faults, text)?;
-    let help = String::from_str(rt.alloc(), "a help\n")?;
-    let wrong = String::from_str(rt.alloc(), "--top 0: not from 1 to 9")?;
-    let faults = [
-        ProgramFault::Words(WordsFault::Answered(help)),
-        ProgramFault::Words(WordsFault::Wrong(wrong)),
-    ];
-    let text = "a help\n\n--top 0: not from 1 to 9; --help tells more\n";
-    assert_said(&rt, rt.alloc(), &faults, text)?;
-    Ok(())
+        a value isn't shown\nout of memory\n\
+        a help\n\n--top 0: not from 1 to 9; --help tells more\n";
+    assert_said(&rt, rt.alloc(), &faults, text);
 }
