@@ -1,6 +1,5 @@
 //! Keys and shapes of plain numbers.
-use nb_core::{Key, OutOfMemory, Shape};
-use std::alloc::Global;
+use nb_core::{Key, Shape};
 use std::process::Abort;
 
 /// How many slots the first table has, as a power of two; and how many tables, seats and stripes
@@ -14,22 +13,4 @@ pub(super) fn shape<R: Abort>(rt: &R, sizes: Sizes) -> Shape {
 
 pub(super) fn key<R: Abort>(rt: &R, k: u64) -> Key {
     Key::new(k).expect(rt, "a key")
-}
-
-/// Keys of these numbers, also where one request for memory is refused.
-pub(super) fn keys<R: Abort>(rt: &R, alloc: Global, numbers: &[u64]) -> Vec<Key> {
-    for _attempt in 0..2 {
-        if let Ok(keys) = keys_once(rt, alloc, numbers) {
-            return keys;
-        }
-    }
-    panic!(rt; "there is memory")
-}
-
-fn keys_once<R: Abort>(rt: &R, alloc: Global, numbers: &[u64]) -> Result<Vec<Key>, OutOfMemory> {
-    let mut keys = Vec::new(alloc);
-    for k in numbers {
-        keys.push(key(rt, *k))?;
-    }
-    Ok(keys)
 }

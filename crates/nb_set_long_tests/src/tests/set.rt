@@ -2,6 +2,5 @@
 mod by_handles;
 mod by_seats;
 mod rows;
-mod stories;
 mod threads;
 mod walks;

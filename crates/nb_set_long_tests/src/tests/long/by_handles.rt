@@ -1,14 +1,13 @@
 //! Rows of calls by a handle of a typed map; and what a handle with all seats does for the whole map.
-//! A call that takes memory is made again where its memory is refused, and then has it.
 ghost use Rattle.std.specs.Prelude.{All, ◌≡◌};
 ghost use Rattle.nb_long.specs.Handles.{IsSameMap};
 ghost use Rattle.nb_long.specs.Typed.{LongMapOf};
 
-use super::super::plain::key;
+use super::super::plain::{Sizes, key, shape};
 use super::by_handles::Call::*;
-use super::updating::updates;
+use super::updating::{is_updated, nothing, one_more};
 use nb_core::{Key, Num, Shape};
-use nb_long::{Handle, LongFault, RenewFault, SettleFault, Stored};
+use nb_long::{Handle, LongFault, RenewFault, RenewStoreFault, SettleFault, Stored};
 use std::alloc::Global;
 use std::process::Abort;
 use std::sync::Wait;
@@ -41,104 +40,111 @@ pub(super) enum Call {
     Occupancy(u32, u32),
     /// The map has so many seats.
     Seats(usize),
+    /// Its seats settle, and it has so many keys.
+    Settle(Result<u64, SettleFault>),
+    /// These keys are listed, in whatever order, with the numbers of these values.
+    List(Result<&'static [(u64, u64)], SettleFault>),
+    /// It is made anew in this shape, and the handle has so many seats then.
+    Renew(Sizes, Result<(), RenewFault>, usize),
+    /// The same with a new store, to which so many values are carried.
+    RenewStore(Sizes, Result<usize, RenewStoreFault>),
+    /// A seat is split off and lost.
+    Without,
 }
 
-/// What a write came to.
-#[derive(Clone, Copy, PartialEq)]
-enum End {
-    Done(bool),
-    Full,
-    Refused,
-}
-
-/// Whether a value was written, or could have been.
-pub(super) fn is_made(end: Result<Stored<u64>, LongFault<u64>>) -> bool {
-    end.is_ok()
-}
-
-/// Why a write wasn't made. Where memory was refused, the value came back.
-fn refused<R: Abort>(rt: &R, fault: LongFault<u64>, new: u64) -> End {
-    match fault {
-        LongFault::Full(_) => End::Full,
-        LongFault::OutOfMemory(value) => {
-            assert!(rt; value == new);
-            End::Refused
-        }
-        _ => panic!(rt; "the number is in range, and shown"),
-    }
-}
-
-/// What a write came to.
-fn written<R: Abort>(rt: &R, end: Result<Stored<u64>, LongFault<u64>>, new: u64) -> End {
+/// Whether a write came to this; to none, where the map is full. Where memory was refused, the value
+/// comes back.
+fn is_written<R: Abort>(
+    rt: &R,
+    end: Result<Stored<u64>, LongFault<u64>>,
+    new: u64,
+    due: Option<bool>,
+) -> bool {
     match end {
-        Ok(stored) => End::Done(stored.done),
-        Err(fault) => refused(rt, fault, new),
-    }
-}
-
-/// Makes a write.
-fn writes<R: Wait + Abort>(rt: &R, handle: &mut Handle<u64>, call: Call) -> End
-    ensures { IsSameMap handle.old handle.new }
-{
-    match call {
-        Put(k, new) => written(rt, handle.put(rt, key(rt, k), new), new),
-        Refuse(k) => written(rt, handle.put(rt, key(rt, k), 0), 0),
-        PutIfAbsent(k, new, _) => written(rt, handle.put_if_absent(rt, key(rt, k), new), new),
-        Replace(k, new, _) => written(rt, handle.replace(rt, key(rt, k), new), new),
-        ReplaceIf(k, old, new, _) => written(rt, handle.replace_if(rt, key(rt, k), &old, new), new),
-        _ => End::Refused,
+        Ok(stored) => due == Some(stored.done),
+        Err(LongFault::Full(_)) => due.is_none(),
+        Err(LongFault::OutOfMemory(value)) => {
+            assert!(rt; value == new);
+            false
+        }
+        Err(_) => false,
     }
 }
 
 /// Makes a write, and answers whether it comes to what the row says.
-fn writes_again<R: Wait + Abort>(rt: &R, handle: &mut Handle<u64>, call: Call, due: End) -> bool
-    ensures { IsSameMap handle.old handle.new }
-{
-    let end = writes(rt, handle, call);
-    if end == End::Refused {
-        return writes(rt, handle, call) == due;
-    }
-    end == due
-}
-
-/// Makes a call, and answers whether it comes to what the row says.
-fn makes<R: Wait + Abort>(rt: &R, handle: &mut Handle<u64>, call: Call) -> bool
-    ensures { IsSameMap handle.old handle.new }
-{
+fn writes<R: Wait + Abort>(rt: &R, handle: &mut Handle<u64>, call: Call) -> bool {
     match call {
-        Put(_, _) => writes_again(rt, handle, call, End::Done(true)),
-        Refuse(_) => writes_again(rt, handle, call, End::Full),
-        PutIfAbsent(_, _, done) | Replace(_, _, done) | ReplaceIf(_, _, _, done) => {
-            writes_again(rt, handle, call, End::Done(done))
+        Put(k, new) => is_written(rt, handle.put(rt, key(rt, k), new), new, Some(true)),
+        Refuse(k) => is_written(rt, handle.put(rt, key(rt, k), 0), 0, None),
+        PutIfAbsent(k, new, done) => {
+            let end = handle.put_if_absent(rt, key(rt, k), new);
+            is_written(rt, end, new, Some(done))
         }
-        Update(k, grows, was) => {
-            let due = Some((was, grows));
-            updates(rt, handle, key(rt, k), grows) == due
-                || updates(rt, handle, key(rt, k), grows) == due
+        Replace(k, new, done) => {
+            is_written(rt, handle.replace(rt, key(rt, k), new), new, Some(done))
         }
-        _ => looks(rt, handle, call),
+        ReplaceIf(k, old, new, done) => {
+            let end = handle.replace_if(rt, key(rt, k), &old, new);
+            is_written(rt, end, new, Some(done))
+        }
+        Update(k, true, was) => is_updated(rt, handle.update(rt, key(rt, k), one_more), was, true),
+        Update(k, false, was) => is_updated(rt, handle.update(rt, key(rt, k), nothing), was, false),
+        _ => false,
     }
 }
 
-/// The same of a call that takes a key out, or looks at it or at the whole map.
-fn looks<R: Wait + Abort>(rt: &R, handle: &mut Handle<u64>, call: Call) -> bool
-    ensures { IsSameMap handle.old handle.new }
-{
+/// The same of any call.
+fn makes<R: Wait + Abort>(rt: &R, alloc: Global, handle: &mut Handle<u64>, call: Call) -> bool {
     match call {
         Remove(k, done) => handle.remove(rt, key(rt, k)).is_some() == done,
         RemoveIf(k, old, done) => handle.remove_if(rt, key(rt, k), &old) == Ok(done),
-        TakeIf(k, old, done) => match handle.take_if(rt, key(rt, k), &old) {
-            Ok(compared) => compared.done == done,
-            Err(_) => false,
-        },
+        TakeIf(k, old, done) => {
+            let end = handle.take_if(rt, key(rt, k), &old);
+            end.is_ok_and(|compared| compared.done == done)
+        }
         Value(k, value) => value_at(rt, handle, key(rt, k)) == value,
         Occupancy(taken, looked) => {
             let seen = handle.occupancy();
             seen.taken == taken && seen.looked == looked
         }
         Seats(seats) => handle.shape().seats() == seats,
-        _ => false,
+        Settle(size) => handle.settle(alloc) == size,
+        List(values) => match handle.entries(alloc) {
+            Ok(entries) => {
+                values.is_ok_and(|values| are_just(rt, handle, entries.as_slice(), values))
+            }
+            Err(fault) => values.err() == Some(fault),
+        },
+        Renew(sizes, end, count) => {
+            handle.renew(alloc, shape(rt, sizes)) == end && handle.seats() == count
+        }
+        RenewStore(sizes, carried) => {
+            let end = handle.renew_store(rt, alloc, shape(rt, sizes));
+            end.map(|renewed| renewed.carried.len()) == carried
+        }
+        Without => handle.split().is_ok(),
+        _ => writes(rt, handle, call),
     }
+}
+
+/// The value under a number.
+pub(super) fn shown<R: Abort>(rt: &R, handle: &Handle<u64>, number: Num) -> u64 {
+    *handle.show(number).expect(rt, "the value is shown").value()
+}
+
+/// Whether these are the keys, each with the number of its value.
+pub(super) fn are_just<R: Abort>(
+    rt: &R,
+    handle: &Handle<u64>,
+    entries: &[(Key, Num)],
+    values: &[(u64, u64)],
+) -> bool {
+    for (key, number) in entries {
+        if !values.contains(&(key.get(), shown(rt, handle, *number))) {
+            return false;
+        }
+    }
+    entries.len() == values.len()
 }
 
 /// The value at a key.
@@ -146,18 +152,24 @@ pub(super) fn value_at<R: Abort>(rt: &R, handle: &mut Handle<u64>, key: Key) -> 
     ensures { IsSameMap handle.old handle.new }
 {
     let number = handle.number_at(key)?;
-    let Some(found) = handle.show(number) else {
-        panic!(rt; "the value is shown")
-    };
-    Some(*found.value())
+    Some(shown(rt, handle, number))
 }
 
-/// Makes these calls.
-pub(super) fn sees<R: Wait + Abort>(rt: &R, handle: &mut Handle<u64>, calls: &[Call])
-    ensures { IsSameMap handle.old handle.new }
-{
+/// Makes these calls, and each of them again where it came to something else, if it is to: memory
+/// was refused then.
+pub(super) fn sees<R: Wait + Abort>(
+    rt: &R,
+    alloc: Global,
+    handle: &mut Handle<u64>,
+    calls: &[Call],
+    again: bool,
+) {
     for i in 0..calls.len() {
-        assert!(rt; makes(rt, handle, calls[i]), "call {i}");
+        let is_made = makes(rt, alloc, handle, calls[i]);
+        assert!(rt;
+            is_made || (again && makes(rt, alloc, handle, calls[i])),
+            "call {i}"
+        );
     }
 }
 
@@ -201,42 +213,6 @@ pub(super) fn together<R: Abort>(rt: &R, handles: Vec<Handle<u64>>) -> Handle<u6
     let mut whole = handles.pop().expect(rt, "a handle");
     assert!(rt; whole.join_all(handles).is_ok());
     whole
-}
-
-/// The map settles. How many keys it has, or why it doesn't.
-pub(super) fn settles(alloc: Global, handle: &mut Handle<u64>) -> Result<u64, SettleFault> {
-    match handle.settle(alloc) {
-        Err(SettleFault::OutOfMemory) => handle.settle(alloc),
-        settled => settled,
-    }
-}
-
-/// The map is made anew in this shape, or isn't.
-pub(super) fn renews(
-    alloc: Global,
-    handle: &mut Handle<u64>,
-    shape: Shape,
-) -> Result<(), RenewFault> {
-    match handle.renew(alloc, shape) {
-        Err(RenewFault::OutOfMemory) => handle.renew(alloc, shape),
-        renewed => renewed,
-    }
-}
-
-/// All keys of a map at rest, with the numbers of their values; none where a seat is missing.
-pub(super) fn listed<R: Abort>(
-    rt: &R,
-    alloc: Global,
-    handle: &mut Handle<u64>,
-) -> Option<Vec<(Key, Num)>> {
-    for _attempt in 0..2 {
-        match handle.entries(alloc) {
-            Ok(entries) => return Some(entries),
-            Err(SettleFault::NotAll) => return None,
-            Err(SettleFault::OutOfMemory) => {}
-        }
-    }
-    panic!(rt; "there is memory")
 }
 
 /// Closes a map, all of whose seats this handle has. So many keys are left.

@@ -145,22 +145,13 @@ fn one_round<R: Threads + Sync + Wait + Abort>(
     assert!(rt; *store.value(&told_too.receipt) == 20);
 }
 
-/// A round with a map of its own.
-fn two_receipts_and_typed_finish<R: Threads + Sync + Wait + Abort>(rt: &R, alloc: Global) {
-    let (map, mut seats) = made(rt, alloc, (2, 1, 2, 1));
-    let b = taken(rt, &map, &mut seats);
-    let a = taken(rt, &map, &mut seats);
-    one_round(rt, alloc, map, a, b);
-}
-
+/// The rows two_receipts and typed_finish, again and again, each time with a map of its own.
 #[test]
-fn two_receipts(rt: HostRuntime) {
+fn two_receipts_and_typed_finish(rt: HostRuntime) {
     for _round in 0..200 {
-        two_receipts_and_typed_finish(&rt, rt.alloc());
+        let (map, mut seats) = made(&rt, rt.alloc(), (2, 1, 2, 1));
+        let b = taken(&rt, &map, &mut seats);
+        let a = taken(&rt, &map, &mut seats);
+        one_round(&rt, rt.alloc(), map, a, b);
     }
-}
-
-#[test]
-fn typed_finish(rt: HostRuntime) {
-    two_receipts_and_typed_finish(&rt, rt.alloc());
 }

@@ -17,26 +17,19 @@ fn says<R: Abort + AllocGlobal, E: Display>(rt: &R, fault: &E, text: &str) {
     assert!(rt; said.as_str() == text);
 }
 
-/// A store's refusal, and what a write and an update of the map make of it.
+/// A store's refusal, and what a write and an update of the map make of it; those that found no slot,
+/// and those that found a number that shows nothing.
 #[test]
-fn texts_without_memory(rt: HostRuntime) {
+fn fault_texts(rt: HostRuntime) {
     let refused: StoreFault<u64> = StoreFault::OutOfMemory(7);
     says(&rt, &refused, "out of memory");
     says(&rt, &LongFault::from(refused), "out of memory");
     let refused: StoreFault<u64> = StoreFault::OutOfMemory(7);
     says(&rt, &UpdateFault::from(refused), "out of memory");
-}
-
-/// A write and an update that found no slot, and those that found a number that shows nothing.
-#[test]
-fn fault_texts(rt: HostRuntime) {
     says(&rt, &LongFault::Full(receipt(&rt)), "the map is full");
     says(&rt, &UpdateFault::Full(receipt(&rt)), "the map is full");
-    says(
-        &rt,
-        &LongFault::Unshown(receipt(&rt)),
-        "a value isn't shown",
-    );
+    let fault = LongFault::Unshown(receipt(&rt));
+    says(&rt, &fault, "a value isn't shown");
     let fault: UpdateFault<u64> = UpdateFault::from(Unshown);
     says(&rt, &fault, "a value isn't shown");
     says(&rt, &Unshown, "a value isn't shown");

@@ -2,9 +2,8 @@
 ghost use Rattle.nb_long.specs.Handles.{IsSameMap};
 
 use super::super::plain::{key, shape};
-use super::by_handles::{apart, is_made, listed, opened, renews, settles, together, value_at};
-use super::stories::shown;
-use super::updating::{one_more, updated};
+use super::by_handles::{apart, opened, shown, together, value_at};
+use super::updating::one_more;
 use nb_core::{Key, Num};
 use nb_long::Handle;
 use std::alloc::Global;
@@ -18,7 +17,7 @@ fn record(k: u64, choice: u64) -> u64 {
     k.wrapping_mul(1000).wrapping_add(choice % 1000)
 }
 
-/// Makes a write at a key that has a value, as `choice` says.
+/// Makes a write at a key that has a value, as `choice` says, and answers whether it was made.
 fn writes_over<R: Wait + Abort>(
     rt: &R,
     handle: &mut Handle<u64>,
@@ -30,9 +29,9 @@ fn writes_over<R: Wait + Abort>(
     ensures { IsSameMap handle.old handle.new }
 {
     match choice % 4 {
-        0 => is_made(handle.put(rt, at, new)),
-        1 => is_made(handle.replace(rt, at, new)),
-        2 => is_made(handle.replace_if(rt, at, &found, new)),
+        0 => handle.put(rt, at, new).is_ok(),
+        1 => handle.replace(rt, at, new).is_ok(),
+        2 => handle.replace_if(rt, at, &found, new).is_ok(),
         _ => handle.remove_if(rt, at, &found).is_ok(),
     }
 }
@@ -43,11 +42,10 @@ fn writes_one<R: Wait + Abort>(rt: &R, handle: &mut Handle<u64>, k: u64, choice:
 {
     let (at, new) = (key(rt, k), record(k, choice));
     let Some(found) = value_at(rt, handle, at) else {
-        assert!(rt; is_made(handle.put_if_absent(rt, at, new)));
+        assert!(rt; handle.put_if_absent(rt, at, new).is_ok());
         return;
     };
-    assert!(rt; found / 1000 == k);
-    assert!(rt; writes_over(rt, handle, at, found, new, choice));
+    assert!(rt; found / 1000 == k && writes_over(rt, handle, at, found, new, choice));
 }
 
 /// Writes records of four keys, as the thread's own row of numbers chooses them, and counts the
@@ -62,10 +60,10 @@ fn writes_often<R: Wait + Abort>(rt: &R, handle: &mut Handle<u64>, thread: u64, 
             .wrapping_mul(6_364_136_223_846_793_005)
             .wrapping_add(1_442_695_040_888_963_407);
         writes_one(rt, handle, row >> 62, row >> 20);
-        assert!(rt; updated(rt, handle.update(rt, key(rt, 7), one_more)).is_some());
+        assert!(rt; handle.update(rt, key(rt, 7), one_more).is_ok());
     }
     let own = round.wrapping_add(10);
-    assert!(rt; is_made(handle.put(rt, key(rt, own), record(own, row))));
+    assert!(rt; handle.put(rt, key(rt, own), record(own, row)).is_ok());
     let _ = handle.remove(rt, key(rt, round.wrapping_add(9)));
 }
 
@@ -105,19 +103,14 @@ fn are_whole<R: Abort>(rt: &R, handle: &Handle<u64>, entries: &[(Key, Num)], upd
 /// Four threads write. Then all entries are listed, the map settles, and is made anew. So it goes
 /// again and again, until the map has had ten times as many different keys as its last table has
 /// slots.
-fn rounds<R: Threads + Sync + Wait + Abort>(rt: &R, alloc: Global, handle: Handle<u64>) {
-    let mut handle = handle;
-    for round in 1..81 {
-        handle = all_write(rt, alloc, handle, round);
-        let entries = listed(rt, alloc, &mut handle).expect(rt, "all seats are here");
-        are_whole(rt, &handle, entries.as_slice(), 800 * round);
-        assert!(rt; settles(alloc, &mut handle) == Ok(entries.len() as u64));
-        assert!(rt; renews(alloc, &mut handle, shape(rt, (2, 2, 4, 1))) == Ok(()));
-    }
-}
-
 #[test]
 fn cache_of_four_threads(rt: HostRuntime) {
-    let handle = opened(&rt, rt.alloc(), shape(&rt, (2, 2, 4, 1)));
-    rounds(&rt, rt.alloc(), handle);
+    let mut handle = opened(&rt, rt.alloc(), shape(&rt, (2, 2, 4, 1)));
+    for round in 1..81 {
+        handle = all_write(&rt, rt.alloc(), handle, round);
+        let entries = handle.entries(rt.alloc()).expect(&rt, "all seats are here");
+        are_whole(&rt, &handle, entries.as_slice(), 800 * round);
+        assert!(rt; handle.settle(rt.alloc()) == Ok(entries.len() as u64));
+        assert!(rt; handle.renew(rt.alloc(), shape(&rt, (2, 2, 4, 1))).is_ok());
+    }
 }

@@ -1,5 +1,8 @@
 //! Rows of calls, with what they come to. One table serves a handle and a seat.
+use super::super::plain::{Sizes, key};
 use nb_core::Key;
+use nb_set::{FullAfter, RenewFault, SettleFault};
+use std::process::Abort;
 
 /// A call, and what it comes to.
 #[derive(Clone, Copy)]
@@ -10,8 +13,8 @@ pub(super) enum Call {
     Remove(u64, bool),
     /// This key is looked for. Whether it is there.
     Contains(u64, bool),
-    /// These keys are added. How many of them, if not all, since the set is full.
-    Extend(&'static [u64], Option<usize>),
+    /// These keys are added, all or so many of them, since the set is full.
+    Extend(&'static [u64], Result<(), FullAfter>),
     /// Of all keys those from 2 to 5 stay.
     Retain,
     /// No key stays.
@@ -27,6 +30,14 @@ pub(super) enum Call {
     Occupancy(u32, u32, u32),
     /// It has so many seats.
     Seats(usize),
+    /// By a handle: its seats settle, and the set has so many keys.
+    Settle(Result<u64, SettleFault>),
+    /// By a handle: these keys are listed, in whatever order.
+    List(Result<&'static [u64], SettleFault>),
+    /// By a handle: the set is made anew in this shape, and the handle has so many seats then.
+    Renew(Sizes, Result<(), RenewFault>, usize),
+    /// By a handle: a seat is split off and lost.
+    Without,
 }
 
 /// A key comes and goes.
@@ -59,9 +70,9 @@ pub(super) const REFUSALS_WHEN_FULL: [Call; 12] = [
 
 /// Calls over many keys at once, in a set that has one table of four slots. Where a key is refused,
 /// those before it are added, and none after it.
-pub(super) const OVER_MANY_KEYS: [Call; 18] = [
-    Call::Extend(&[1, 2, 5, 9], None),
-    Call::Extend(&[], None),
+pub(super) const OVER_MANY_KEYS: [Call; 20] = [
+    Call::Extend(&[1, 2, 5, 9], Ok(())),
+    Call::Extend(&[], Ok(())),
     Call::ForEach(17, 4),
     Call::Retain,
     Call::Size(2),
@@ -74,13 +85,30 @@ pub(super) const OVER_MANY_KEYS: [Call; 18] = [
     Call::Size(0),
     Call::Contains(2, false),
     Call::Contains(5, false),
-    Call::Extend(&[1, 2], None),
-    Call::Extend(&[2, 5, 9, 7, 1], Some(3)),
+    Call::Extend(&[1, 2], Ok(())),
+    Call::Extend(&[2, 5, 9, 7, 1], Err(FullAfter { put: 3 })),
     Call::Contains(7, false),
     Call::Size(4),
+    Call::Occupancy(0, 4, 4),
+    Call::Seats(1),
 ];
 
 /// Whether `Call::Retain` lets a key stay.
 pub(super) fn stays(key: Key) -> bool {
     key.get() > 1 && key.get() < 6
+}
+
+/// These keys, and behind them the key 0; eight at most.
+pub(super) fn keys<R: Abort>(rt: &R, numbers: &[u64]) -> [Key; 8] {
+    let mut keys = [Key::from(0_u32); 8];
+    for (place, number) in keys.iter_mut().zip(numbers) {
+        *place = key(rt, *number);
+    }
+    keys
+}
+
+/// Whether these are the keys, in whatever order.
+pub(super) fn are_just(keys: &[Key], numbers: &[u64]) -> bool {
+    let are_all = keys.iter().all(|key| numbers.contains(&key.get()));
+    are_all && keys.len() == numbers.len()
 }

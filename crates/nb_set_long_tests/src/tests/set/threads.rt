@@ -2,10 +2,7 @@
 ghost use Rattle.nb_set.specs.Handles.{IsSameSet};
 
 use super::super::plain::{key, shape};
-use super::by_handles::{apart, closed, listed, opened, sees, together};
-use super::rows::Call::Add;
-use super::stories::Step::{Renew, Settle};
-use super::stories::takes;
+use super::by_handles::{apart, closed, opened, together};
 use nb_core::Key;
 use nb_set::Handle;
 use std::alloc::Global;
@@ -100,11 +97,11 @@ fn rounds<R: Threads + Sync + Wait + Abort>(
     let (mut size, mut handle) = (0, handle);
     for round in 1..161 {
         handle = all_churn(rt, alloc, handle, told, round);
-        let keys = listed(rt, alloc, &mut handle).expect(rt, "all seats are here");
+        let keys = handle.keys(alloc).expect(rt, "all seats are here");
         size = are_kept(rt, told, keys.as_slice());
-        takes(rt, alloc, &mut handle, Settle(Ok(size)));
+        assert!(rt; handle.settle(alloc) == Ok(size));
         if round % 4 == 0 {
-            takes(rt, alloc, &mut handle, Renew((2, 3, 4, 4), Ok(()), 4));
+            assert!(rt; handle.renew(alloc, shape(rt, (2, 3, 4, 4))).is_ok());
         }
     }
     (size, handle)
@@ -119,7 +116,7 @@ fn four_threads_the_same_keys(rt: HostRuntime) {
         AtomicU64::new(0),
         AtomicU64::new(0),
     ];
-    sees(&rt, rt.alloc(), &mut handle, &[Add(5, Some(true))]);
+    assert!(rt; handle.add(&rt, key(&rt, 5)) == Ok(true));
     let (size, handle) = rounds(&rt, rt.alloc(), handle, &told);
     let ended = closed(&rt, handle);
     assert!(rt; ended.contains(key(&rt, 170)) && ended.size() == size);

@@ -3,7 +3,7 @@ ghost use Rattle.std.specs.Prelude.{◌≡◌, ◌==◌, ℕ, List};
 ghost use Rattle.std.specs.List.{list_any};
 ghost use Rattle.nb_set.specs.Handles.{IsSameSet};
 ghost use Rattle.nb_set.specs.Sets.{IsMine};
-ghost use Rattle.nb_set.specs.Walks.{HasShownAll, IsWalkOf};
+ghost use Rattle.nb_set.specs.Walks.{HasShownAll};
 
 use super::super::plain::{key, shape};
 use super::by_handles::{has_left, opened, sees};
@@ -11,7 +11,7 @@ use super::by_seats::{ended, given_back, made, taken};
 use super::rows::Call;
 use super::rows::Call::*;
 use nb_core::Key;
-use nb_set::{Handle, LongSet, Seat, Walk};
+use nb_set::{Handle, LongSet, Seat};
 use std::process::Abort;
 use std::sync::Wait;
 
@@ -78,24 +78,14 @@ fn digits_by(handle: Handle) -> (u64, Handle) {
     (digits, walk.end())
 }
 
-/// The next key of a walk that leaves its handle where it is, and is taken on by it.
-fn digit_beside(handle: &mut Handle, walk: &mut Walk) -> Option<u64>
-    requires { IsWalkOf handle.old.set handle.old.seat walk.old }
-    ensures { IsWalkOf handle.new.set handle.new.seat walk.new }
-{
-    match handle.next_key(walk) {
-        Some(key) => Some(key.get()),
-        None => None,
-    }
-}
-
-/// The same keys by such a walk, which stays at its end.
+/// The same keys by a walk that leaves its handle where it is, is taken on by it, and stays at its
+/// end.
 fn two_digits_beside<R: Abort>(rt: &R, handle: &mut Handle) {
     let mut walk = handle.begin_walk();
-    assert!(rt; digit_beside(handle, &mut walk) == Some(7));
-    assert!(rt; digit_beside(handle, &mut walk) == Some(3));
-    assert!(rt; digit_beside(handle, &mut walk).is_none());
-    assert!(rt; digit_beside(handle, &mut walk).is_none());
+    assert!(rt; handle.next_key(&mut walk).map(Key::get) == Some(7));
+    assert!(rt; handle.next_key(&mut walk).map(Key::get) == Some(3));
+    assert!(rt; handle.next_key(&mut walk).is_none());
+    assert!(rt; handle.next_key(&mut walk).is_none());
 }
 
 /// In a table of four slots the path of the key 7 goes on from the last slot to the first, where
@@ -103,24 +93,12 @@ fn two_digits_beside<R: Abort>(rt: &R, handle: &mut Handle) {
 #[test]
 fn loops_over_keys(rt: HostRuntime) {
     let (mut mine, _theirs) = two(&rt, opened(&rt, rt.alloc(), shape(&rt, (2, 1, 2, 1))));
-    sees(
-        &rt,
-        rt.alloc(),
-        &mut mine,
-        &[Extend(&[3, 7, 2], None), Remove(2, true)],
-    );
+    let calls = [Extend(&[3, 7, 2], Ok(())), Remove(2, true)];
+    sees(&rt, rt.alloc(), &mut mine, &calls, false);
     two_digits_beside(&rt, &mut mine);
     let (digits, mut mine) = digits_by(mine);
-    sees(&rt, rt.alloc(), &mut mine, &[Remove(7, true)]);
+    assert!(rt; mine.remove(&rt, key(&rt, 7)));
     assert!(rt; (digits, digits_of(mine)) == (73, 3));
-}
-
-/// Adds a key and looks for it. Its caller knows by `same` that the handle is of the set that it
-/// was of.
-fn adds_and_looks<R: Wait>(rt: &R, handle: &mut Handle, key: Key) -> bool
-    ensures same { IsSameSet handle.old handle.new }
-{
-    handle.add(rt, key).is_ok() && handle.contains(key)
 }
 
 /// Two handles of a set with two seats.
@@ -132,13 +110,22 @@ fn two<R: Abort>(rt: &R, handle: Handle) -> (Handle, Handle)
     (mine, theirs)
 }
 
-/// A handle works, and then meets another one.
-fn adds_and_meets<R: Wait + Abort>(rt: &R, mine: &mut Handle, theirs: &mut Handle, key: Key)
-    requires { mine.old.set ≡ theirs.old.set }
-    ensures { theirs.new.set ≡ mine.new.set }
+/// A handle adds a key and looks for it. Its caller knows by `same` that the handle is of the set
+/// that it was of.
+fn adds_and_looks<R: Wait>(rt: &R, handle: &mut Handle, key: Key) -> bool
+    ensures same { IsSameSet handle.old handle.new }
 {
-    assert!(rt; adds_and_looks(rt, mine, key));
+    handle.add(rt, key).is_ok() && handle.contains(key)
+}
+
+/// Two handles work, and meet.
+fn both_add<R: Wait + Abort>(rt: &R, mine: &mut Handle, theirs: &mut Handle)
+    requires { mine.old.set ≡ theirs.old.set }
+{
+    assert!(rt; adds_and_looks(rt, mine, key(rt, 5)));
     mine.meet(theirs);
+    assert!(rt; adds_and_looks(rt, theirs, key(rt, 6)));
+    theirs.meet(mine);
 }
 
 /// Another handle's keys are there, and a key comes and goes. Three slots of the first table are
@@ -159,8 +146,7 @@ const SEES_BOTH: [Call; 8] = [
 fn functions_over_handles(rt: HostRuntime) {
     let handle = opened(&rt, rt.alloc(), shape(&rt, (4, 4, 2, 1)));
     let (mut mine, mut theirs) = two(&rt, handle);
-    adds_and_meets(&rt, &mut mine, &mut theirs, key(&rt, 5));
-    adds_and_meets(&rt, &mut theirs, &mut mine, key(&rt, 6));
-    sees(&rt, rt.alloc(), &mut theirs, &SEES_BOTH);
-    sees(&rt, rt.alloc(), &mut mine, &[Contains(6, true)]);
+    both_add(&rt, &mut mine, &mut theirs);
+    sees(&rt, rt.alloc(), &mut theirs, &SEES_BOTH, false);
+    assert!(rt; mine.contains(key(&rt, 6)));
 }
