@@ -1,12 +1,10 @@
-//! Calls of the map with their replies, one after another and by several threads.
+//! Tests of the map's calls by handles, and where they don't reach by seats. Rows of calls that C
+//! has too are in `languages/c/tests`.
 mod bulk;
 mod calls;
-mod fullness;
-mod listing;
-mod renewing;
+mod opening;
 mod rows;
 mod seats;
-mod splitting;
 mod threads;
 mod updating;
 mod walks;

@@ -2,13 +2,13 @@
 ghost use Rattle.std.specs.Prelude.{◌≡◌};
 ghost use Rattle.nb_map.specs.Handles.{AreOfOneMap};
 
-use nb_core::{Change, Key, Num, Reply, Shape, ShapeFault, Want};
-use nb_map::{Ended, Full, Handle, PutFault};
+use super::rows::Answer::*;
+use super::rows::Call::*;
+use nb_core::{Change, Key, Num, Reply, Shape, Want};
+use nb_map::{Ended, Handle, PutFault};
 use std::alloc::Global;
 use std::process::Abort;
 use std::sync::Wait;
-use std::thread;
-use std::thread::Threads;
 
 /// A call at a key, with plain numbers; `Estimate` and `Generation` are of the whole map. Those
 /// from `TryPut` on wait for nobody. They have one try, or as many as their last number says.
@@ -31,7 +31,7 @@ pub(super) enum Call {
     TryPutIfAbsent(u64),
     TryAdd(u64, u32),
     TryRemove,
-    Exchange(Option<u64>, Option<u64>),
+    Exchange(Option<u32>, Option<u32>),
     OneMore(u32),
     Max(u64, u32),
     Min(u64, u32),
@@ -45,8 +45,6 @@ pub(super) enum Call {
 /// What a call answers: what was there, whether it matched, or both; or why it is refused.
 #[derive(Clone, Copy, PartialEq, Eq)]
 pub(super) enum Answer {
-    /// Whatever a call answers that isn't refused.
-    Made,
     Nothing,
     Was(u64),
     Is(bool),
@@ -58,10 +56,10 @@ pub(super) enum Answer {
 pub(super) type Row = (u64, Call, Answer);
 
 /// The answer of a write that finds no room for its key.
-pub(super) const FULL: Answer = Answer::Refused(PutFault::Full);
+pub(super) const FULL: Answer = Refused(PutFault::Full);
 
 /// The answer of an add whose sum is past the greatest number.
-pub(super) const PAST: Answer = Answer::Refused(PutFault::ValueRange);
+pub(super) const PAST: Answer = Refused(PutFault::ValueRange);
 
 /// The key, which is a small one.
 pub(super) fn key<R: Abort>(rt: &R, key: u64) -> Key {
@@ -78,19 +76,11 @@ pub(super) fn entry<R: Abort>(rt: &R, k: u64, n: u64) -> (Key, Num) {
     (key(rt, k), number(rt, n))
 }
 
-/// A number, or none.
-fn some<R: Abort>(rt: &R, n: Option<u64>) -> Option<Num> {
-    match n {
-        Some(n) => Some(number(rt, n)),
-        None => None,
-    }
-}
-
 /// What was there.
 fn was(before: Option<Num>) -> Answer {
     match before {
-        Some(number) => Answer::Was(number.get()),
-        None => Answer::Nothing,
+        Some(number) => Was(number.get()),
+        None => Nothing,
     }
 }
 
@@ -101,142 +91,98 @@ where
 {
     match answer {
         Ok(before) => was(before),
-        Err(fault) => Answer::Refused(PutFault::from(fault)),
-    }
-}
-
-/// What is there now, or why it isn't put.
-fn there(answer: Result<Num, Full>) -> Answer {
-    match answer {
-        Ok(now) => Answer::Was(now.get()),
-        Err(_) => FULL,
+        Err(fault) => Refused(PutFault::from(fault)),
     }
 }
 
 /// A reply, or why a call is refused.
 fn replied(answer: Result<Reply, PutFault>) -> Answer {
     match answer {
-        Ok(reply) => match reply.before {
-            Some(before) => Answer::Replied(Some(before.get()), reply.matched),
-            None => Answer::Replied(None, reply.matched),
-        },
-        Err(fault) => Answer::Refused(fault),
+        Ok(reply) => Replied(reply.before.map(Num::get), reply.matched),
+        Err(fault) => Refused(fault),
     }
 }
 
 /// A number plus one, or 1 where there is none. After the greatest number there is none.
 pub(super) fn one_more(number: Option<Num>) -> Option<Num> {
-    match number {
-        Some(number) => Num::new(number.get().saturating_add(1)).ok(),
-        None => Num::new(1).ok(),
-    }
+    let before = number.map_or(0, Num::get);
+    Num::new(before.saturating_add(1)).ok()
 }
 
-/// What the write behind all others is asked.
-fn asked<R: Abort>(rt: &R, call: Call) -> (Want, Change) {
+/// Makes a call that waits for nobody.
+fn tries<R: Abort>(rt: &R, handle: &mut Handle, at: Key, call: Call) -> Answer {
     match call {
-        Call::PutAtAbsent(n) => (Want::Absent, Change::Put(number(rt, n))),
-        Call::PutAtPresent(n) => (Want::Present, Change::Put(number(rt, n))),
-        Call::AddAtAny(n) => (Want::Any, Change::Add(number(rt, n))),
-        Call::RemoveEqual(n) => (Want::Equal(number(rt, n)), Change::Remove),
+        TryPut(n) => found(handle.try_put(at, number(rt, n), 1)),
+        TryPutIfAbsent(n) => found(handle.try_put_if_absent(at, number(rt, n), 1)),
+        TryAdd(n, tries) => found(handle.try_add(at, number(rt, n), tries)),
+        TryRemove => found(handle.try_remove(at, 1)),
+        OneMore(tries) => found(handle.try_update(at, tries, one_more)),
+        Exchange(old, new) => {
+            let (old, new) = (old.map(Num::from), new.map(Num::from));
+            replied(handle.compare_exchange(at, old, new, 1))
+        }
+        Max(n, tries) => found(handle.fetch_max(at, number(rt, n), tries)),
+        Min(n, tries) => found(handle.fetch_min(at, number(rt, n), tries)),
+        PutAtAbsent(n) => {
+            let change = Change::Put(number(rt, n));
+            replied(handle.put_if_match(at, Want::Absent, change, 1))
+        }
+        PutAtPresent(n) => {
+            let change = Change::Put(number(rt, n));
+            replied(handle.put_if_match(at, Want::Present, change, 1))
+        }
+        AddAtAny(n) => {
+            let change = Change::Add(number(rt, n));
+            replied(handle.put_if_match(at, Want::Any, change, 1))
+        }
+        RemoveEqual(n) => {
+            let want = Want::Equal(number(rt, n));
+            replied(handle.put_if_match(at, want, Change::Remove, 1))
+        }
         _ => panic!(rt; "this is another call"),
     }
 }
 
-/// Makes a call that compares what is there with numbers, or that wants something of it.
-fn compares<R: Abort>(rt: &R, handle: &mut Handle, at: Key, call: Call) -> Answer
-    ensures { handle.new.map ≡ handle.old.map }
-{
-    match call {
-        Call::Exchange(old, new) => {
-            replied(handle.compare_exchange(at, some(rt, old), some(rt, new), 1))
-        }
-        Call::Max(n, tries) => found(handle.fetch_max(at, number(rt, n), tries)),
-        Call::Min(n, tries) => found(handle.fetch_min(at, number(rt, n), tries)),
-        _ => {
-            let (want, change) = asked(rt, call);
-            replied(handle.put_if_match(at, want, change, 1))
-        }
-    }
-}
-
-/// Makes a call that waits for nobody.
-fn tries<R: Abort>(rt: &R, handle: &mut Handle, at: Key, call: Call) -> Answer
-    ensures { handle.new.map ≡ handle.old.map }
-{
-    match call {
-        Call::TryPut(n) => found(handle.try_put(at, number(rt, n), 1)),
-        Call::TryPutIfAbsent(n) => found(handle.try_put_if_absent(at, number(rt, n), 1)),
-        Call::TryAdd(n, tries) => found(handle.try_add(at, number(rt, n), tries)),
-        Call::TryRemove => found(handle.try_remove(at, 1)),
-        Call::OneMore(tries) => found(handle.try_update(at, tries, one_more)),
-        _ => compares(rt, handle, at, call),
-    }
-}
-
 /// A write, and then an add of as much; each passes its refusal on.
-fn put_and_add<R: Wait + Abort>(
+fn put_and_add<R: Wait>(
     rt: &R,
     handle: &mut Handle,
     at: Key,
-    n: u64,
-) -> Result<Option<Num>, PutFault>
-    ensures { handle.new.map ≡ handle.old.map }
-{
-    handle.put(rt, at, number(rt, n))?;
-    Ok(handle.add(rt, at, number(rt, n))?)
+    number: Num,
+) -> Result<Option<Num>, PutFault> {
+    handle.put(rt, at, number)?;
+    Ok(handle.add(rt, at, number)?)
 }
 
-/// Makes a call that writes.
-fn writes<R: Wait + Abort>(rt: &R, handle: &mut Handle, at: Key, call: Call) -> Answer
-    ensures { handle.new.map ≡ handle.old.map }
-{
+/// Makes the call at the key.
+fn makes<R: Wait + Abort>(rt: &R, handle: &mut Handle, k: u64, call: Call) -> Answer {
+    let at = key(rt, k);
     match call {
-        Call::Put(n) => found(handle.put(rt, at, number(rt, n))),
-        Call::PutIfAbsent(n) => found(handle.put_if_absent(rt, at, number(rt, n))),
-        Call::Replace(n) => was(handle.replace(rt, at, number(rt, n))),
-        Call::ReplaceIf(old, new) => {
-            Answer::Is(handle.replace_if(rt, at, number(rt, old), number(rt, new)))
-        }
-        Call::Remove => was(handle.remove(rt, at)),
-        Call::RemoveIf(n) => Answer::Is(handle.remove_if(rt, at, number(rt, n))),
-        Call::Add(n) => found(handle.add(rt, at, number(rt, n))),
-        Call::GetOrInsert(n) => there(handle.get_or_insert(rt, at, number(rt, n))),
-        Call::PutAndAdd(n) => found(put_and_add(rt, handle, at, n)),
+        Get => was(handle.get(at)),
+        GetOr(n) => Was(handle.get_or(at, number(rt, n)).get()),
+        Has => Is(handle.contains_key(at)),
+        Estimate => Was(handle.size_estimate()),
+        Generation => Was(u64::from(handle.generation())),
+        Put(n) => found(handle.put(rt, at, number(rt, n))),
+        PutIfAbsent(n) => found(handle.put_if_absent(rt, at, number(rt, n))),
+        Replace(n) => was(handle.replace(rt, at, number(rt, n))),
+        ReplaceIf(old, new) => Is(handle.replace_if(rt, at, number(rt, old), number(rt, new))),
+        Remove => was(handle.remove(rt, at)),
+        RemoveIf(n) => Is(handle.remove_if(rt, at, number(rt, n))),
+        Add(n) => found(handle.add(rt, at, number(rt, n))),
+        GetOrInsert(n) => match handle.get_or_insert(rt, at, number(rt, n)) {
+            Ok(now) => Was(now.get()),
+            Err(_) => FULL,
+        },
+        PutAndAdd(n) => found(put_and_add(rt, handle, at, number(rt, n))),
         _ => tries(rt, handle, at, call),
     }
 }
 
-/// Makes the call at the key.
-pub(super) fn makes<R: Wait + Abort>(rt: &R, handle: &mut Handle, k: u64, call: Call) -> Answer
-    ensures { handle.new.map ≡ handle.old.map }
-{
-    let at = key(rt, k);
-    match call {
-        Call::Get => was(handle.get(at)),
-        Call::GetOr(n) => Answer::Was(handle.get_or(at, number(rt, n)).get()),
-        Call::Has => Answer::Is(handle.contains_key(at)),
-        Call::Estimate => Answer::Was(handle.size_estimate()),
-        Call::Generation => Answer::Was(u64::from(handle.generation())),
-        _ => writes(rt, handle, at, call),
-    }
-}
-
-/// Whether a call that answers so answers what was expected.
-fn fits(answer: Answer, expected: Answer) -> bool {
-    match (answer, expected) {
-        (Answer::Refused(_), Answer::Made) => false,
-        (_, Answer::Made) => true,
-        _ => answer == expected,
-    }
-}
-
 /// Makes these calls, which answer so.
-pub(super) fn sees<R: Wait + Abort>(rt: &R, handle: &mut Handle, rows: &[Row])
-    ensures { handle.new.map ≡ handle.old.map }
-{
-    for (k, made, answer) in rows {
-        assert!(rt; fits(makes(rt, handle, *k, *made), *answer), "key {k}");
+pub(super) fn sees<R: Wait + Abort>(rt: &R, handle: &mut Handle, rows: &[Row]) {
+    for (k, call, answer) in rows {
+        assert!(rt; makes(rt, handle, *k, *call) == *answer, "key {k}");
     }
 }
 
@@ -267,64 +213,35 @@ pub(super) fn joined<R: Abort>(rt: &R, handles: Vec<Handle>) -> Handle
     }
 }
 
-/// Each seat of the handle makes these calls in a thread of its own, and they answer so.
-pub(super) fn all_see<R: Threads + Sync + Wait + Abort>(
-    rt: &R,
-    alloc: Global,
-    handle: Handle,
-    rows: &[Row],
-) -> Handle {
-    let mut handles = parted(rt, alloc, handle);
-    thread::for_each_mut(
-        rt,
-        handles.as_mut_slice(),
-        4,
-        &|_, handle: &mut Handle|
-            ensures { handle.exit.now.map ≡ handle.entry.now.map }
-        { sees(rt, handle, rows) },
-    );
-    joined(rt, handles)
-}
+/// How many slots the first table has, as a power of two; and how many tables, seats and stripes
+/// there are.
+pub(super) type Sizes = (u32, u32, usize, usize);
 
 /// The shape, which is a good one.
-pub(super) fn good<R: Abort>(rt: &R, shape: Result<Shape, ShapeFault>) -> Shape {
-    let Ok(shape) = shape else {
-        panic!(rt; "a good shape")
-    };
-    shape
+pub(super) fn shape<R: Abort>(rt: &R, sizes: Sizes) -> Shape {
+    let (bits, tables, seats, stripes) = sizes;
+    Shape::new(bits, tables, seats, stripes).expect(rt, "a good shape")
 }
 
-/// The whole handle of a new map of this shape.
-pub(super) fn opened<R: Abort>(rt: &R, alloc: Global, shape: Result<Shape, ShapeFault>) -> Handle {
-    match Handle::open(alloc, good(rt, shape)) {
-        Ok(handle) => handle,
-        Err(_) => panic!(rt; "memory"),
+/// The whole handle of a new map of this shape, also where one request for memory is refused.
+pub(super) fn opened<R: Abort>(rt: &R, alloc: Global, sizes: Sizes) -> Handle {
+    for _attempt in 0..2 {
+        if let Ok(handle) = Handle::open(alloc, shape(rt, sizes)) {
+            return handle;
+        }
     }
-}
-
-/// The handle of a map with one seat. Its first table has four slots, and each further one twice as
-/// many.
-pub(super) fn alone<R: Abort>(rt: &R, alloc: Global, tables: u32) -> Handle {
-    opened(rt, alloc, Shape::new(2, tables, 1, 1))
-}
-
-/// A handle of its own for a seat in reserve.
-pub(super) fn split_off<R: Abort>(rt: &R, handle: &mut Handle) -> Handle
-    ensures { (handle.new.map ≡ handle.old.map) × (result.map ≡ handle.old.map) }
-{
-    match handle.split() {
-        Ok(other) => other,
-        Err(_) => panic!(rt; "there is a seat"),
-    }
+    panic!(rt; "memory")
 }
 
 /// The two handles of a map with two seats. Its first table has four slots, and its second eight.
 pub(super) fn two<R: Abort>(rt: &R, alloc: Global) -> (Handle, Handle)
     ensures { result.0.map ≡ result.1.map }
 {
-    let mut handle = opened(rt, alloc, Shape::new(2, 2, 2, 2));
-    let other = split_off(rt, &mut handle);
-    (handle, other)
+    let mut handle = opened(rt, alloc, (2, 2, 2, 2));
+    match handle.split() {
+        Ok(other) => (handle, other),
+        Err(_) => panic!(rt; "there is a seat"),
+    }
 }
 
 /// Two handles of one map as one.
@@ -345,39 +262,21 @@ pub(super) fn ended<R: Wait + Abort>(rt: &R, handle: Handle) -> Ended {
     }
 }
 
-/// Sees that these are the entries, in whatever order.
-pub(super) fn are_just<R: Abort>(rt: &R, entries: &[(Key, Num)], pairs: &[(u64, u64)]) {
-    assert!(rt; entries.len() == pairs.len());
-    for (k, n) in entries {
-        assert!(rt; pairs.contains(&(k.get(), n.get())));
-    }
-}
-
-/// Sees that these keys are left, each with its number, also where one request for memory is
-/// refused.
-pub(super) fn has_just<R: Abort>(rt: &R, alloc: Global, ended: &Ended, pairs: &[(u64, u64)]) {
-    assert!(rt; ended.size() == pairs.len() as u64);
-    let entries = match ended.entries(alloc) {
-        Ok(entries) => entries,
-        Err(_) => ended.entries(alloc).expect(rt, "memory"),
-    };
-    are_just(rt, entries.as_slice(), pairs);
+/// Whether these are the entries, in whatever order.
+pub(super) fn are_just(entries: &[(Key, Num)], pairs: &[(u64, u64)]) -> bool {
+    let are_all = entries
+        .iter()
+        .all(|(k, n)| pairs.contains(&(k.get(), n.get())));
+    are_all && entries.len() == pairs.len()
 }
 
 /// Ends the map of this whole handle. These keys are left, each with its number.
 pub(super) fn leaves<R: Wait + Abort>(rt: &R, alloc: Global, handle: Handle, pairs: &[(u64, u64)]) {
-    has_just(rt, alloc, &ended(rt, handle), pairs);
-}
-
-/// Makes calls in a new map, which answer so. Then these keys are left, each with its number.
-pub(super) fn plays<R: Wait + Abort>(
-    rt: &R,
-    alloc: Global,
-    tables: u32,
-    rows: &[Row],
-    left: &[(u64, u64)],
-) {
-    let mut handle = alone(rt, alloc, tables);
-    sees(rt, &mut handle, rows);
-    leaves(rt, alloc, handle, left);
+    let ended = ended(rt, handle);
+    let entries = match ended.entries(alloc) {
+        Ok(entries) => Ok(entries),
+        Err(_) => ended.entries(alloc),
+    };
+    let entries = entries.expect(rt, "memory");
+    assert!(rt; ended.size() == pairs.len() as u64 && are_just(entries.as_slice(), pairs));
 }

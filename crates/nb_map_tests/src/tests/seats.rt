@@ -1,55 +1,42 @@
-//! A map and its seats, where handles don't reach: a seat that is missing at the end.
-ghost use Rattle.std.specs.Prelude.{◌≡◌, IfOk};
-ghost use Rattle.nb_map.specs.Maps.{AreMine, IsMine};
+//! A map and its seats, where handles don't reach: a seat that is missing at the end, and entries.
+ghost use Rattle.std.specs.Prelude.{◌≡◌};
+ghost use Rattle.nb_map.specs.Maps.{AreMine};
 
-use super::rows::good;
-use nb_core::{NotAll, OutOfMemory, Shape};
+use super::rows::{are_just, entry, shape};
+use nb_core::NotAll;
 use nb_map::{Map, Seat};
 use std::process::Abort;
 
-/// One of the seats.
-fn taken<R: Abort>(rt: &R, map: &Map, seats: &mut Vec<Seat>) -> Seat
-    requires own { AreMine map.now seats.old.items }
-    ensures taken { IsMine map.now result }
-    ensures left { AreMine map.now seats.new.items }
+/// Ends the map without one of its seats. It is given back, and ends with all.
+fn ends<R: Abort>(rt: &R, map: Map, seats: Vec<Seat>)
+    requires { AreMine map seats.items }
 {
+    let mut seats = seats;
     let Some(seat) = seats.pop() else {
         panic!(rt; "there is a seat")
     };
-    seat
-}
-
-/// Gives a seat back to those that it was taken from.
-fn gives_back(map: &Map, seats: &mut Vec<Seat>, seat: Seat) -> Result<(), OutOfMemory>
-    requires own { AreMine map.now seats.old.items }
-    requires given { IsMine map.now seat }
-    ensures own { IfOk result (λ done. AreMine map.now seats.new.items) }
-{
-    seats.push(seat)?;
-    Ok(())
-}
-
-/// Ends the map without one of its two seats, which gives it back.
-fn given_back<R: Abort>(rt: &R, map: Map, seats: Vec<Seat>) -> (Map, Vec<Seat>)
-    requires own { AreMine map seats.items }
-    ensures map { result.0 ≡ map }
-    ensures own { AreMine map result.1.items }
-{
-    let Err(NotAll { whole, seats }) = map.finish(seats) else {
+    let Err(NotAll { whole, mut seats }) = map.finish(seats) else {
         panic!(rt; "a seat is missing")
     };
-    assert!(rt; seats.len() == 1);
-    (whole, seats)
+    seats.push(seat).expect(rt, "memory");
+    assert!(rt; whole.finish(seats).is_ok());
 }
 
-/// Ending without a seat gives the map back, and it ends with all.
 #[test]
 fn size_of_two_seats(rt: HostRuntime) {
-    let Ok((map, mut seats)) = Map::new(rt.alloc(), good(&rt, Shape::new(2, 1, 2, 2))) else {
+    let Ok((map, seats)) = Map::new(rt.alloc(), shape(&rt, (2, 1, 2, 2))) else {
         panic!(&rt; "memory")
     };
-    let b = taken(&rt, &map, &mut seats);
-    let (map, mut seats) = given_back(&rt, map, seats);
-    assert!(&rt; gives_back(&map, &mut seats, b).is_ok());
-    assert!(&rt; map.finish(seats).is_ok());
+    ends(&rt, map, seats);
+}
+
+#[test]
+fn listed_by_seats(rt: HostRuntime) {
+    let entries = [entry(&rt, 1, 10), entry(&rt, 2, 20), entry(&rt, 1, 11)];
+    let shape = shape(&rt, (2, 1, 3, 1));
+    let Ok((map, mut seats)) = Map::with_entries(rt.alloc(), shape, &entries) else {
+        panic!(&rt; "memory")
+    };
+    let listed = map.entries(rt.alloc(), &mut seats);
+    assert!(rt; listed.is_ok_and(|listed| are_just(listed.as_slice(), &[(1, 11), (2, 20)])));
 }

@@ -7,11 +7,9 @@ ghost use Rattle.nb_map.specs.Logs.{HasLogged};
 
 use super::rows::Answer::{Refused, Was};
 use super::rows::Call::Get;
-use super::rows::{alone, found, key, leaves, number, one_more, put_together, sees, two};
+use super::rows::{Answer, found, key, leaves, number, one_more, opened, put_together, sees, two};
 use nb_core::{Key, Num};
 use nb_map::{Handle, PutFault};
-use std::alloc::Global;
-use std::process::Abort;
 use std::sync::Wait;
 
 /// Adds 1 to the number of a key. Another handle does so too before each of the first exchanges, so
@@ -22,7 +20,7 @@ fn update_beside(
     at: Key,
     tries: u32,
     others: u64,
-) -> (Result<Option<Num>, PutFault>, u64) {
+) -> (Answer, u64) {
     let mut calls = 0u64;
     let before = a.try_update(at, tries, |was| {
         calls = calls.wrapping_add(1);
@@ -31,26 +29,20 @@ fn update_beside(
         }
         one_more(was)
     });
-    (before, calls)
+    (found(before), calls)
 }
 
 /// Another handle's updates come between the read and the exchange, and after the first exchange.
-/// Each is taken up, in one more call of the function.
+/// Each is taken up, in one more call of the function. Where as many come as there are tries, the
+/// update comes too late, and no exchange is made after them.
 #[test]
 fn update_takes_up_what_came(rt: HostRuntime) {
     let (mut a, mut b) = two(&rt, rt.alloc());
-    let (before, calls) = update_beside(&mut a, &mut b, key(&rt, 5), 3, 2);
-    assert!(&rt; found(before) == Was(2) && calls == 3);
+    assert!(rt; update_beside(&mut a, &mut b, key(&rt, 5), 3, 2) == (Was(2), 3));
     sees(&rt, &mut a, &[(5, Get, Was(3))]);
-}
-
-/// As many exchanges as there are tries come too late, and none is made after them.
-#[test]
-fn update_is_contended(rt: HostRuntime) {
-    let (mut a, mut b) = two(&rt, rt.alloc());
-    let (before, _) = update_beside(&mut a, &mut b, key(&rt, 5), 2, u64::MAX);
-    assert!(&rt; found(before) == Refused(PutFault::Contended));
-    sees(&rt, &mut a, &[(5, Get, Was(2))]);
+    let (before, _) = update_beside(&mut a, &mut b, key(&rt, 6), 2, u64::MAX);
+    assert!(rt; before == Refused(PutFault::Contended));
+    sees(&rt, &mut a, &[(6, Get, Was(2))]);
 }
 
 /// Adds to the numbers of two keys.
@@ -88,7 +80,7 @@ fn read_often(handle: &mut Handle, at: Key, times: u64)
 /// A function tells in its contract how many calls it has made in a loop.
 #[test]
 fn reads_that_a_contract_counts(rt: HostRuntime) {
-    let mut handle = alone(&rt, rt.alloc(), 1);
+    let mut handle = opened(&rt, rt.alloc(), (2, 1, 1, 1));
     read_often(&mut handle, key(&rt, 1), 3);
     leaves(&rt, rt.alloc(), handle, &[]);
 }
