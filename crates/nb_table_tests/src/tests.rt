@@ -5,4 +5,4 @@ mod copiers;
 mod copies;
 mod on_chain;
 mod rows;
-mod writers;
+mod steps;

@@ -1,5 +1,5 @@
 //! Steps of a copy from table 0 to table 1 that are made by hand, so that a copier may stop between
-//! them, and the calls that copy. A helper first looks, by loads, at what its step asks for.
+//! them. A helper first looks, by loads, at what its step asks for.
 ghost use Rattle.std.specs.Prelude.{◌≡◌, ◌<◌, []};
 ghost use Rattle.nb_core.specs.History.{HasValue};
 ghost use Rattle.nb_core.specs.Plans.{generations_of, size_of};
@@ -9,7 +9,6 @@ ghost use Rattle.nb_core.specs.declared.states.KeyState.TheVariants as key_is;
 ghost use Rattle.nb_table.specs.Chains.{Grown, IsOwn, seen_by};
 
 use super::on_chain::*;
-use nb_copy::{complete, copy_and_count, copy_slot, help};
 use nb_core::{Key, KeyState, Num, ValueState};
 use nb_table::{Chain, ChainSeat};
 use std::process::Abort;
@@ -53,7 +52,7 @@ fn sees_others<R: Abort>(rt: &R, chain: &Chain, seat: &mut ChainSeat, key: Key, 
 
 /// Sees that there is a table after table 0.
 #[tactic(auto, using(nb_table::proofs::Theorems::steps_add_up))]
-fn sees_next<R: Abort>(rt: &R, chain: &Chain, seat: &mut ChainSeat)
+pub(super) fn sees_next<R: Abort>(rt: &R, chain: &Chain, seat: &mut ChainSeat)
     requires own { IsOwn chain.now seat.old }
     ensures own { IsOwn chain.now seat.new }
     ensures grows { Grown chain.now.shape seat.old seat.new [] 1 }
@@ -88,68 +87,14 @@ pub(super) fn installs<R: Abort>(rt: &R, chain: &Chain, seat: &mut ChainSeat, k:
     chain.install(seat, 0, key)
 }
 
-/// Copies the slot of table 0, and answers whether a step of this call turned it finished.
-pub(super) fn copies<R: Abort>(rt: &R, chain: &Chain, seat: &mut ChainSeat, i: usize) -> bool
-    requires own { IsOwn chain.now seat.old }
-    ensures own { IsOwn chain.now seat.new }
-{
-    is_slot(rt, chain, 0, i);
-    sees_next(rt, chain, seat);
-    copy_slot(chain, seat, 0, i)
-}
-
-/// The same, and counts the slot where a step of this call turned it finished.
-pub(super) fn counts<R: Abort>(rt: &R, chain: &Chain, seat: &mut ChainSeat, i: usize) -> bool
-    requires own { IsOwn chain.now seat.old }
-    ensures own { IsOwn chain.now seat.new }
-{
-    is_slot(rt, chain, 0, i);
-    sees_next(rt, chain, seat);
-    copy_and_count(chain, seat, 0, i)
-}
-
-/// Copies the next chunk of table 0, and answers how many slots this turned finished.
-pub(super) fn helps<R: Abort>(rt: &R, chain: &Chain, seat: &mut ChainSeat) -> usize
-    requires own { IsOwn chain.now seat.old }
-    ensures own { IsOwn chain.now seat.new }
-{
-    sees_next(rt, chain, seat);
-    help(chain, seat, 0)
-}
-
-/// Copies the whole of table 0.
-pub(super) fn completes<R: Abort>(rt: &R, chain: &Chain, seat: &mut ChainSeat)
-    requires own { IsOwn chain.now seat.old }
-    ensures own { IsOwn chain.now seat.new }
-{
-    sees_next(rt, chain, seat);
-    complete(chain, seat, 0);
-}
-
-/// Takes the next chunk of table 0, and answers where it begins.
-pub(super) fn takes<R: Abort>(rt: &R, chain: &Chain, seat: &mut ChainSeat) -> u64
-    requires own { IsOwn chain.now seat.old }
-    ensures own { IsOwn chain.now seat.new }
-{
-    assert!(rt; 0 < chain.shape().generations());
-    sees_next(rt, chain, seat);
-    chain.take_work(seat, 0)
-}
-
-/// Primes the value in the first slot of table 0, which is the key's. It was this.
-pub(super) fn primes<R: Abort>(
-    rt: &R,
-    chain: &Chain,
-    seat: &mut ChainSeat,
-    key: Key,
-    was: ValueState,
-)
+/// Primes the value in the first slot of table 0, which is the key's, and answers what it was.
+pub(super) fn primes<R: Abort>(rt: &R, chain: &Chain, seat: &mut ChainSeat, key: Key) -> ValueState
     requires own { IsOwn chain.now seat.old }
     ensures own { IsOwn chain.now seat.new }
 {
     sees_next(rt, chain, seat);
     sees_key(rt, chain, seat, 0, key);
-    assert_eq!(rt; chain.prime(seat, 0, 0), was);
+    chain.prime(seat, 0, 0)
 }
 
 /// Sees that the first slot of table 0 is the key's, and has this number, primed or finished.
@@ -171,15 +116,16 @@ pub(super) fn sees_source<R: Abort>(
     assert!(rt; value == ValueState::Primed(number) || value == ValueState::Finished(number));
 }
 
-/// Claims the key's home slot in table 1, for a key that has the first slot of table 0.
-pub(super) fn claims<R: Abort>(rt: &R, chain: &Chain, seat: &mut ChainSeat, key: Key)
+/// Claims the key's home slot in table 1, for a key that has the first slot of table 0, and answers
+/// what the key word was.
+pub(super) fn claims<R: Abort>(rt: &R, chain: &Chain, seat: &mut ChainSeat, key: Key) -> KeyState
     requires own { IsOwn chain.now seat.old }
     ensures own { IsOwn chain.now seat.new }
 {
     let j = slot_on_path(rt, chain, 1, key, 0);
     sees_next(rt, chain, seat);
     sees_key(rt, chain, seat, 0, key);
-    assert_eq!(rt; chain.claim_key(seat, 1, j, key), KeyState::Empty);
+    chain.claim_key(seat, 1, j, key)
 }
 
 /// Copies the number of the key's slot to the key's slot in table 1, both the first ones, and

@@ -1,134 +1,87 @@
 //! Copies by several threads at once.
-ghost use Rattle.std.specs.Prelude.{All, IfOk};
+ghost use Rattle.std.specs.Prelude.{All};
 ghost use Rattle.nb_core.specs.Tables.{IsInstalled, IsSlot};
 ghost use Rattle.nb_table.specs.Chains.{IsOwn, seen_by};
 
-use super::by_hand::*;
-use super::copies::{SIX, fills_two_chunks};
+use super::copies::{FILLS_TWO_CHUNKS, SIX};
 use super::on_chain::*;
+use super::steps::Step::*;
+use super::steps::*;
 use nb_copy::{copy_and_count, copy_slot};
-use nb_core::{KeyState, OutOfMemory, Shape};
 use nb_table::{Chain, ChainSeat};
 use std::alloc::Global;
 use std::process::Abort;
-use std::test::Fail;
+use std::sync::atomic::{AtomicUsize, Ordering};
 use std::thread;
 use std::thread::Threads;
 
-/// A chain with so many seats. One has filled a table 0 of two chunks, and installed table 1.
-fn filled<R: Abort>(
-    rt: &R,
-    alloc: Global,
-    seats: usize,
-) -> Result<(Chain, Vec<ChainSeat>), OutOfMemory>
-    ensures own { IfOk result (λ made. All (IsOwn made.0) made.1.items) }
-{
-    let (chain, mut seats) = chain_of(rt, alloc, Shape::new(4, 2, seats, 1))?;
-    let mut seat = taken(rt, &chain, &mut seats);
-    fills_two_chunks(rt, &chain, &mut seat);
-    seats.push(seat)?;
-    Ok((chain, seats))
-}
+/// Table 0 is complete, the top word says so, and table 1 has the six keys: the three of each home
+/// side by side, in some order. Nobody is handed another chunk.
+const IS_COPIED: [Step; 14] = [
+    Get(0, Some(10)),
+    Get(16, Some(26)),
+    Get(32, Some(42)),
+    Get(48, Some(58)),
+    Get(64, Some(74)),
+    Get(80, Some(90)),
+    Claimed(0),
+    Claimed(1),
+    Claimed(2),
+    Claimed(16),
+    Claimed(17),
+    Claimed(18),
+    Helps(0),
+    Top(1),
+];
 
-/// Sees that the slot of table 0 is finished.
-fn is_finished<R: Abort>(rt: &R, chain: &Chain, seat: &mut ChainSeat, i: usize)
-    requires own { IsOwn chain.now seat.old }
-    ensures own { IsOwn chain.now seat.new }
-{
-    let key = key_in(rt, chain, seat, 0, i);
-    let value = value_in(rt, chain, seat, 0, i);
-    assert!(rt; key == KeyState::Dead || value.is_finished(), "slot {i}");
-}
+/// All slots of table 0, which are sixteen, are finished.
+const IS_COMPLETE: [Step; 16] = [
+    Done(0),
+    Done(1),
+    Done(2),
+    Done(3),
+    Done(4),
+    Done(5),
+    Done(6),
+    Done(7),
+    Done(8),
+    Done(9),
+    Done(10),
+    Done(11),
+    Done(12),
+    Done(13),
+    Done(14),
+    Done(15),
+];
 
-/// Sees that all slots of table 0, which are sixteen, are finished.
-fn is_complete<R: Abort>(rt: &R, chain: &Chain, seat: &mut ChainSeat)
-    requires own { IsOwn chain.now seat.old }
-    ensures own { IsOwn chain.now seat.new }
-{
-    for i in 0..16 {
-        is_finished(rt, chain, seat, i);
-    }
-}
-
-/// Sees that the slot of table 1 has a key.
-fn is_claimed<R: Abort>(rt: &R, chain: &Chain, seat: &mut ChainSeat, i: usize)
-    requires own { IsOwn chain.now seat.old }
-    ensures own { IsOwn chain.now seat.new }
-{
-    let key = key_in(rt, chain, seat, 1, i);
-    assert!(rt; matches!(&key, KeyState::Claimed(_)), "slot {i}");
-}
-
-/// Sees that table 0 is complete, that the top word says so, and that table 1 has the six keys: the
-/// three of each home side by side, in some order. Nobody is handed another chunk.
-fn is_copied<R: Abort>(rt: &R, chain: &Chain, seat: &mut ChainSeat)
-    requires own { IsOwn chain.now seat.old }
-    ensures own { IsOwn chain.now seat.new }
-{
-    is_complete(rt, chain, seat);
-    gets(rt, chain, seat, &SIX);
-    for i in [0, 1, 2, 16, 17, 18] {
-        is_claimed(rt, chain, seat, i);
-    }
-    assert_eq!(rt; helps(rt, chain, seat), 0);
-    assert_eq!(rt; chain.load_top(seat), 1);
-}
-
-/// Sees that the table is copied, and closes the chain with all its seats.
-fn ends<R: Abort>(
-    rt: &R,
-    alloc: Global,
-    chain: Chain,
-    seats: Vec<ChainSeat>,
-) -> Result<(), OutOfMemory>
-    requires own { All (IsOwn chain) seats.items }
-{
-    let mut seats = seats;
-    let mut seat = taken(rt, &chain, &mut seats);
-    is_copied(rt, &chain, &mut seat);
-    seats.push(seat)?;
-    leaves(rt, alloc, chain, seats, &SIX)
-}
-
-/// Each seat copies the whole of table 0 in a thread of its own.
-fn all_complete<R: Threads + Sync + Abort>(rt: &R, chain: &Chain, seats: &mut [ChainSeat])
-    requires own { All (IsOwn chain.now) seats.old }
-    ensures own { All (IsOwn chain.now) seats.new }
-{
+/// So many threads copy one table of two chunks, each all of it.
+fn complete_one_table<R: Threads + Sync + Abort>(rt: &R, alloc: Global, threads: usize) {
+    let (chain, mut seats) = chain_of(rt, alloc, &[4, 5], threads);
+    by_turns(rt, &chain, seats.as_mut_slice(), &[(0, &FILLS_TWO_CHUNKS)]);
     thread::for_each_mut(
         rt,
-        seats,
+        seats.as_mut_slice(),
         8,
         &|_, seat: &mut ChainSeat|
             requires { IsOwn chain.now seat.now }
             ensures { IsOwn chain.entry.now seat.exit.now }
-        { completes(rt, chain, seat) },
+        { goes(rt, &chain, seat, &[Completes]) },
     );
-}
-
-/// So many threads copy one table, each all of it.
-fn complete_one_table<R: Threads + Sync + Abort>(
-    rt: &R,
-    alloc: Global,
-    threads: usize,
-) -> Result<(), OutOfMemory> {
-    let (chain, mut seats) = filled(rt, alloc, threads)?;
-    all_complete(rt, &chain, seats.as_mut_slice());
-    ends(rt, alloc, chain, seats)
+    let turns: [(usize, &[Step]); 2] = [(0, &IS_COMPLETE), (0, &IS_COPIED)];
+    by_turns(rt, &chain, seats.as_mut_slice(), &turns);
+    leaves(rt, alloc, chain, seats, &SIX);
 }
 
 #[test]
-fn two_completers(rt: HostRuntime) -> Result<(), Fail> {
-    complete_one_table(&rt, rt.alloc(), 2)?;
-    Ok(())
+fn two_completers(rt: HostRuntime) {
+    complete_one_table(&rt, rt.alloc(), 2);
 }
 
 #[test]
-fn many_complete_one_table(rt: HostRuntime) -> Result<(), Fail> {
+fn many_complete_one_table(rt: HostRuntime) {
     for _round in 0..1000 {
-        complete_one_table(&rt, rt.alloc(), 4)?;
+        complete_one_table(&rt, rt.alloc(), 4);
     }
-    Ok(())
 }
 
 /// Copies slot `i` of table 0, and counts it if it is to. Answers whether this turned it finished.
@@ -145,105 +98,50 @@ fn turns_slot(chain: &Chain, seat: &mut ChainSeat, i: usize, counted: bool) -> b
     copy_slot(chain, seat, 0, i)
 }
 
-/// Copies the slots of table 0 one after another, if it has a next one, and answers how many of
-/// them this turned finished.
-fn turns_alone(chain: &Chain, seat: ChainSeat, counted: bool) -> (usize, ChainSeat)
-    requires { IsOwn chain.now seat }
-    ensures { IsOwn chain.now result.1 }
+/// Copies the slots of table 0 one after another, if it has a next one, and adds how many of them
+/// this turned finished.
+fn turns_alone(chain: &Chain, seat: &mut ChainSeat, counted: bool, turned: &AtomicUsize)
+    requires { IsOwn chain.now seat.old }
+    ensures { IsOwn chain.now seat.new }
 {
-    let mut seat = seat;
-    let mut turned = 0usize;
-    if chain.load_next(&mut seat, 0, None) {
+    if chain.load_next(seat, 0, None) {
         for i in 0..chain.shape().size_of(0) {
-            let by_this = usize::from(turns_slot(chain, &mut seat, i, counted));
-            turned = turned.wrapping_add(by_this);
+            let by_this = usize::from(turns_slot(chain, seat, i, counted));
+            turned.fetch_add(by_this, Ordering::SeqCst);
         }
     }
-    (turned, seat)
-}
-
-/// Each seat copies the slots of table 0 one after another, in a thread of its own. Answers how
-/// many this turned finished in all, and the seats.
-fn all_turn<R: Threads + Sync>(
-    rt: &R,
-    alloc: Global,
-    chain: &Chain,
-    seats: Vec<ChainSeat>,
-    counted: bool,
-) -> Result<(usize, Vec<ChainSeat>), OutOfMemory>
-    requires own { All (IsOwn chain.now) seats.items }
-    ensures own { IfOk result (λ all. All (IsOwn chain.now) all.1.items) }
-{
-    let mut done = thread::map_vec(
-        rt,
-        seats,
-        &|seat: ChainSeat| -> (usize, ChainSeat)
-            requires { IsOwn chain.now seat }
-            ensures { IsOwn chain.entry.now result.1 }
-        { turns_alone(chain, seat, counted) },
-    )?;
-    let mut turned = 0usize;
-    let mut seats = Vec::new(alloc);
-    while let Some((by_one, seat)) = done.pop() {
-        turned = turned.wrapping_add(by_one);
-        seats.push(seat)?;
-    }
-    Ok((turned, seats))
-}
-
-/// Sees that table 0 is complete, and that the top word says so if slots were counted. Then a seat
-/// completes it.
-fn is_turned<R: Abort>(rt: &R, chain: &Chain, seat: &mut ChainSeat, counted: bool)
-    requires own { IsOwn chain.now seat.old }
-    ensures own { IsOwn chain.now seat.new }
-{
-    is_complete(rt, chain, seat);
-    assert_eq!(rt; chain.load_top(seat), u32::from(counted));
-    completes(rt, chain, seat);
-}
-
-/// The same by one of the seats.
-fn one_is_turned<R: Abort>(
-    rt: &R,
-    chain: &Chain,
-    seats: &mut Vec<ChainSeat>,
-    counted: bool,
-) -> Result<(), OutOfMemory>
-    requires own { All (IsOwn chain.now) seats.old.items }
-    ensures own { All (IsOwn chain.now) seats.new.items }
-{
-    let mut seat = taken(rt, chain, seats);
-    is_turned(rt, chain, &mut seat, counted);
-    gives_back(chain, seats, seat)
 }
 
 /// Four threads copy all slots of one table, one after another. Each of its 16 slots was turned
 /// finished by one of them. If they counted, the top word says that the table is complete; else
 /// nothing says so until a seat completes it.
-fn four_turn_one_table<R: Threads + Sync + Abort>(
-    rt: &R,
-    alloc: Global,
-    counted: bool,
-) -> Result<(), OutOfMemory> {
-    let (chain, seats) = filled(rt, alloc, 4)?;
-    let (turned, mut seats) = all_turn(rt, alloc, &chain, seats, counted)?;
-    assert_eq!(rt; turned, 16);
-    one_is_turned(rt, &chain, &mut seats, counted)?;
-    ends(rt, alloc, chain, seats)
+fn four_turn_one_table<R: Threads + Sync + Abort>(rt: &R, alloc: Global, counted: bool) {
+    let (chain, mut seats) = chain_of(rt, alloc, &[4, 5], 4);
+    by_turns(rt, &chain, seats.as_mut_slice(), &[(0, &FILLS_TWO_CHUNKS)]);
+    let turned = AtomicUsize::new(0);
+    thread::for_each_mut(
+        rt,
+        seats.as_mut_slice(),
+        4,
+        &|_, seat: &mut ChainSeat|
+            requires { IsOwn chain.now seat.now }
+            ensures { IsOwn chain.entry.now seat.exit.now }
+        { turns_alone(&chain, seat, counted, &turned) },
+    );
+    assert_eq!(rt; turned.load(Ordering::SeqCst), 16);
+    let turns: [(usize, &[Step]); 3] = [
+        (0, &IS_COMPLETE),
+        (0, &[Top(u32::from(counted)), Completes]),
+        (0, &IS_COPIED),
+    ];
+    by_turns(rt, &chain, seats.as_mut_slice(), &turns);
+    leaves(rt, alloc, chain, seats, &SIX);
 }
 
+/// The slots are copied, and then copied and counted.
 #[test]
-fn each_slot_is_turned_once(rt: HostRuntime) -> Result<(), Fail> {
-    for _round in 0..1000 {
-        four_turn_one_table(&rt, rt.alloc(), false)?;
+fn each_slot_is_turned_once(rt: HostRuntime) {
+    for round in 0..2000 {
+        four_turn_one_table(&rt, rt.alloc(), round % 2 == 1);
     }
-    Ok(())
-}
-
-#[test]
-fn each_slot_is_counted_once(rt: HostRuntime) -> Result<(), Fail> {
-    for _round in 0..1000 {
-        four_turn_one_table(&rt, rt.alloc(), true)?;
-    }
-    Ok(())
 }
