@@ -7,7 +7,6 @@ use std::io;
 use std::io::Write;
 use std::process::Abort;
 use std::sync::Wait;
-use std::test::Fail;
 use std::thread::Threads;
 
 /// Asserts the status of a process that has no words, and all that it writes and says. It reads
@@ -31,7 +30,7 @@ fn assert_wordless<H: Abort + AllocGlobal + Eprint + Threads + Wait + Sync>(
 
 /// Where there are no words, the reason is told.
 #[test]
-fn processes_are_served(rt: HostRuntime) -> Result<(), Fail> {
+fn processes_are_served(rt: HostRuntime) {
     assert_wordless(&rt, OptionFault::Usage, 3, "", "nbrun: bad usage\n");
     assert_wordless(
         &rt,
@@ -40,9 +39,8 @@ fn processes_are_served(rt: HostRuntime) -> Result<(), Fail> {
         "",
         "nbrun: out of memory\n",
     );
-    let help = OptionFault::Help(String::from_str(rt.alloc(), "ask")?);
+    let help = OptionFault::Help(String::from_str(rt.alloc(), "ask").expect(&rt, "memory"));
     assert_wordless(&rt, help, 0, "ask", "");
-    Ok(())
 }
 
 /// A writer of std that takes nothing.

@@ -3,11 +3,10 @@
 use nb_core::Shape;
 use nb_runner::{FromRead, FromWrite, Gate, Options, RunFault, run_gated};
 use nb_script::script::Cause;
-use std::alloc::{AllocError, Global};
+use std::alloc::Global;
 use std::process::Abort;
 use std::sync::Wait;
 use std::sync::atomic::{AtomicBool, AtomicU64, Ordering};
-use std::test::Fail;
 use std::thread::Threads;
 
 /// Two workers run a script on sixteen slots: what comes of it, and all that is written.
@@ -17,15 +16,14 @@ fn assert_gated<H: Abort + AllocGlobal + Threads + Wait + Sync, G: Gate + Sync>(
     script: &[u8],
     answer: Result<(), RunFault>,
     text: &str,
-) -> Result<(), Fail> {
-    let shape = Shape::new(4, 4, 2, 1)?;
+) {
+    let shape = Shape::new(4, 4, 2, 1).expect(rt, "a shape");
     let mut output = Vec::new(rt.alloc());
     let mut reader = FromRead::new(script);
     let mut writer = FromWrite::new(&mut output);
     let result = run_gated(rt, gate, &Options { shape }, &mut reader, &mut writer);
     assert_eq!(rt; result, answer);
     assert_eq!(rt; output.as_slice(), text.as_bytes());
-    Ok(())
 }
 
 /// Where two workers with a command each come by: before it, and behind it.
@@ -81,7 +79,7 @@ impl Gate for Waits {
 }
 
 #[test]
-fn workers_wait_for_each_other(rt: HostRuntime) -> Result<(), Fail> {
+fn workers_wait_for_each_other(rt: HostRuntime) {
     let cases: [([usize; PLACES], &[u8], &str); 2] = [
         // two_workers_at_once: each waits before its command until the other has come to its own.
         (
@@ -99,10 +97,9 @@ fn workers_wait_for_each_other(rt: HostRuntime) -> Result<(), Fail> {
     ];
     for (waits_for, script, text) in cases {
         let gate = Waits::new(waits_for);
-        assert_gated(&rt, &gate, script, Ok(()), text)?;
+        assert_gated(&rt, &gate, script, Ok(()), text);
         assert!(rt; !gate.is_late.load(Ordering::SeqCst), "at {text:?}");
     }
-    Ok(())
 }
 
 /// Sees that it is called before and after each command of two workers, by turns, and that the
@@ -152,18 +149,22 @@ impl Gate for Turns {
 }
 
 /// A thousand lines without a fault, and one with a fault.
-fn broken_at_last(alloc: Global) -> Result<Vec<u8>, AllocError> {
+fn broken_at_last<H: Abort>(rt: &H, alloc: Global) -> Vec<u8> {
     let mut script = Vec::new(alloc);
-    for _line in 0..1000 {
-        script.extend_from_slice(b"0 put 1 1\n")?;
+    for line in 0..1001 {
+        let text = if line < 1000 {
+            b"0 put 1 1\n"
+        } else {
+            b"0 put 1 x\n"
+        };
+        script.extend_from_slice(text).expect(rt, "memory");
     }
-    script.extend_from_slice(b"0 put 1 x\n")?;
-    Ok(script)
+    script
 }
 
 #[test]
-fn gate_round_each_command(rt: HostRuntime) -> Result<(), Fail> {
-    let broken = broken_at_last(rt.alloc())?;
+fn gate_round_each_command(rt: HostRuntime) {
+    let broken = broken_at_last(&rt, rt.alloc());
     let fault = RunFault::Line(1001, Cause::Number);
     let script = b"0 put 1 1\n1 put 2 2\n0 get 1\n--\n0 get 1\n1 get 2\n1 get 1\n".as_slice();
     let text = "0 -\n0 1\n1 -\n0 1\n1 2\n1 1\nsize 2\n1 1\n2 2\n";
@@ -175,9 +176,8 @@ fn gate_round_each_command(rt: HostRuntime) -> Result<(), Fail> {
     ];
     for (script, answer, text, calls) in cases {
         let gate = Turns::new();
-        assert_gated(&rt, &gate, script, answer, text)?;
+        assert_gated(&rt, &gate, script, answer, text);
         assert!(rt; !gate.is_wrong.load(Ordering::SeqCst), "at {text:?}");
         assert_eq!(rt; gate.calls.load(Ordering::SeqCst), calls, "at {text:?}");
     }
-    Ok(())
 }

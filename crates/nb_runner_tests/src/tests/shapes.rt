@@ -1,31 +1,38 @@
 //! The shape that words give. The program shows of it when the map is full.
 
-use nb_core::Shape;
+use nb_core::{Shape, ShapeFault};
 use nb_script::options::read_options;
 use std::alloc::Global;
-use std::test::Fail;
+use std::process::Abort;
 
 /// The shape of these words, behind the program's name.
-fn read(alloc: Global, words: &[&str]) -> Result<Shape, Fail> {
+fn read<H: Abort>(rt: &H, alloc: Global, words: &[&str]) -> Shape {
     let mut texts = Vec::new(alloc);
-    texts.push(String::from_str(alloc, "nbrun")?)?;
+    texts.push(String::new(alloc)).expect(rt, "memory");
     for word in words {
-        texts.push(String::from_str(alloc, *word)?)?;
+        let text = String::from_str(alloc, *word).expect(rt, "memory");
+        texts.push(text).expect(rt, "memory");
     }
-    let options = read_options(alloc, texts.as_slice())?;
-    Ok(options.shape)
+    match read_options(alloc, texts.as_slice()) {
+        Ok(options) => options.shape,
+        Err(_) => panic!(rt; "the words give options"),
+    }
 }
 
 /// The shape of one seat with these numbers. Without a plan the tables double, no path is limited,
 /// and a chunk has eight slots.
-fn shape(exponents: &[u32], stripes: usize, reprobes: u32, chunk: u32) -> Result<Shape, Fail> {
+fn shape(
+    exponents: &[u32],
+    stripes: usize,
+    reprobes: u32,
+    chunk: u32,
+) -> Result<Shape, ShapeFault> {
     let plain = Shape::with_plan(exponents, 1, stripes)?;
-    let limited = plain.with_reprobe_limit(reprobes)?;
-    Ok(limited.with_chunk(chunk)?)
+    plain.with_reprobe_limit(reprobes)?.with_chunk(chunk)
 }
 
 #[test]
-fn words_give_shapes(rt: HostRuntime) -> Result<(), Fail> {
+fn words_give_shapes(rt: HostRuntime) {
     let cases: [(&[&str], &[u32], usize, u32, u32); 6] = [
         // defaults_stand_for_options
         (&[], &[4, 5, 6, 7], 1, u32::MAX, 8),
@@ -57,9 +64,7 @@ fn words_give_shapes(rt: HostRuntime) -> Result<(), Fail> {
         (&["--plan=2,3", "--reprobes=1"], &[2, 3], 1, 1, 8),
     ];
     for (words, exponents, stripes, reprobes, chunk) in cases {
-        let due = shape(exponents, stripes, reprobes, chunk)?;
-        let given = read(rt.alloc(), words)?;
-        assert_eq!(rt; given, due, "{words:?}");
+        let due = shape(exponents, stripes, reprobes, chunk);
+        assert_eq!(rt; Ok(read(&rt, rt.alloc(), words)), due, "{words:?}");
     }
-    Ok(())
 }

@@ -5,20 +5,14 @@ use nb_script::faults::ServeFault;
 use nb_script::script::Cause;
 use std::fmt::Display;
 use std::process::Abort;
-use std::test::Fail;
 
-fn assert_says<H: Abort + AllocGlobal, E: Display>(
-    rt: &H,
-    error: &E,
-    text: &str,
-) -> Result<(), Fail> {
-    let said = format!(in rt.alloc(); "{error}")?;
+fn assert_says<H: Abort + AllocGlobal, E: Display>(rt: &H, error: &E, text: &str) {
+    let said = format!(in rt.alloc(); "{error}").expect(rt, "memory");
     assert_eq!(rt; said.as_str(), text);
-    Ok(())
 }
 
 #[test]
-fn errors_have_texts(rt: HostRuntime) -> Result<(), Fail> {
+fn errors_have_texts(rt: HostRuntime) {
     let causes = [
         (Cause::TooMany, "too many lines"),
         (Cause::LongLine, "line too long"),
@@ -31,7 +25,7 @@ fn errors_have_texts(rt: HostRuntime) -> Result<(), Fail> {
         (Cause::ValueRange, "value too large"),
     ];
     for (cause, text) in causes {
-        assert_says(&rt, &cause, text)?;
+        assert_says(&rt, &cause, text);
     }
     let faults = [
         (RunFault::Read, "read failed"),
@@ -40,13 +34,13 @@ fn errors_have_texts(rt: HostRuntime) -> Result<(), Fail> {
         (RunFault::OutOfMemory, "out of memory"),
     ];
     for (fault, text) in faults {
-        assert_says(&rt, &fault, text)?;
-        assert_says(&rt, &ServeFault::Run(fault), text)?;
+        assert_says(&rt, &fault, text);
+        assert_says(&rt, &ServeFault::Run(fault), text);
     }
-    assert_says(&rt, &ServeFault::Usage, "bad usage")?;
-    assert_says(&rt, &OptionFault::Usage, "bad usage")?;
-    assert_says(&rt, &OptionFault::OutOfMemory, "out of memory")?;
-    let help = OptionFault::Help(String::from_str(rt.alloc(), "ask")?);
-    assert_says(&rt, &help, "ask")?;
-    assert_says(&rt, &Failed, "read or write failed")
+    assert_says(&rt, &ServeFault::Usage, "bad usage");
+    assert_says(&rt, &OptionFault::Usage, "bad usage");
+    assert_says(&rt, &OptionFault::OutOfMemory, "out of memory");
+    let help = OptionFault::Help(String::from_str(rt.alloc(), "ask").expect(&rt, "memory"));
+    assert_says(&rt, &help, "ask");
+    assert_says(&rt, &Failed, "read or write failed");
 }
