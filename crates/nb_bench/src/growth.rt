@@ -147,8 +147,8 @@ pub(crate) fn pass_once<R: Threads + Sync + Wait + Clock + Eprint>(
     Ok(done)
 }
 
-/// What a round measures, in nanoseconds: how long all puts take; within which times half of the puts
-/// are, 99 of a hundred, and 999 of a thousand; and how long the longest put takes.
+/// What a round measures, in nanoseconds: how long all puts take; within which times half of the
+/// puts are, 99 of a hundred, and 999 of a thousand; and how long the longest put takes.
 pub(crate) type Times = [u64; 5];
 
 /// The times by name, each with the calls that it is of.

@@ -141,7 +141,8 @@ fn time_all<R: Wait + Clock>(
     Ok(spent)
 }
 
-/// Makes calls of all kinds on a new map. Where a kind took less time than before, that is its time.
+/// Makes calls of all kinds on a new map. Where a kind took less time than before, that is its
+/// time.
 fn time_once<R: Wait + Clock>(
     rt: &R,
     alloc: Global,

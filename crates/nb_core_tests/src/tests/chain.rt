@@ -37,8 +37,8 @@ fn closed<R: Abort>(rt: &R, chain: Chain, seats: Vec<ChainSeat>) -> Closed
     closed
 }
 
-/// A chain closes with all its seats, settled or not, whether it has one table or more. Fresh chains
-/// are empty: `fresh_chains_are_empty`.
+/// A chain closes with all its seats, settled or not, whether it has one table or more. Fresh
+/// chains are empty: `fresh_chains_are_empty`.
 #[test]
 fn all_seats_close(rt: HostRuntime) {
     let greatest = Key::new(KEY_MAX).expect(&rt, "a key");

@@ -6,67 +6,51 @@ fn replied(before: Option<Num>, matched: bool) -> Result<Reply, PlainFault> {
     Ok(Reply { before, matched })
 }
 
-/// A key of its own is put, and stays; then the calls of `conditional_calls`, and keys that come in
-/// no order. Entries ascend.
+/// Keys come in no order. Entries ascend.
 #[test]
 fn plain_map(rt: HostRuntime) {
     let mut map = PlainMap::new(rt.alloc());
-    let (five, greatest) = (Key::from(5_u32), Key::new(18446744073709551613));
-    let (first, last) = (Key::from(1_u32), greatest.expect(&rt, "a key"));
-    let (one, two) = (Num::from(1_u32), Num::from(2_u32));
-    let (three, four) = (Num::from(3_u32), Num::from(4_u32));
+    let last = Key::new(18446744073709551613).expect(&rt, "a key");
+    let (zero, one) = (Key::from(0_u32), Key::from(1_u32));
+    let (five, six) = (Num::from(5_u32), Num::from(6_u32));
     for (row, key, want, change, before, matched) in [
-        (1, first, Want::Any, Change::Put(four), None, true),
-        (
-            2,
-            first,
-            Want::Equal(three),
-            Change::Remove,
-            Some(four),
-            false,
-        ),
-        (1, five, Want::Present, Change::Put(one), None, false),
-        (2, five, Want::Equal(one), Change::Put(two), None, false),
-        (3, five, Want::Absent, Change::Put(one), None, true),
-        (4, five, Want::Absent, Change::Put(two), Some(one), false),
-        (5, five, Want::Present, Change::Put(three), Some(one), true),
-        (
-            6,
-            five,
-            Want::Equal(one),
-            Change::Put(four),
-            Some(three),
-            false,
-        ),
-        (
-            7,
-            five,
-            Want::Equal(three),
-            Change::Put(four),
-            Some(three),
-            true,
-        ),
-        (
-            8,
-            five,
-            Want::Equal(three),
-            Change::Remove,
-            Some(four),
-            false,
-        ),
-        (9, five, Want::Equal(four), Change::Remove, Some(four), true),
-        (10, five, Want::Equal(four), Change::Remove, None, false),
-        (11, five, Want::Any, Change::Remove, None, true),
-        (1, last, Want::Any, Change::Put(three), None, true),
-        (2, Key::from(0_u32), Want::Any, Change::Put(two), None, true),
+        (1, one, Want::Any, Change::Put(five), None, true),
+        (2, one, Want::Equal(six), Change::Remove, Some(five), false),
+        (3, last, Want::Any, Change::Put(six), None, true),
+        (4, zero, Want::Any, Change::Put(five), None, true),
     ] {
         let reply = map.apply(key, want, change);
-        assert!(rt; reply == replied(before, matched), "row {row} of {key}");
+        assert!(rt; reply == replied(before, matched), "row {row}");
     }
-    assert!(rt; map.get(five).is_none() && map.get(first) == Some(four) && map.len() == 3);
-    let entries = [(Key::from(0_u32), two), (first, four), (last, three)];
+    assert!(rt; map.get(one) == Some(five) && map.len() == 3);
+    let entries = [(zero, five), (one, five), (last, six)];
     let listed = map.entries(rt.alloc());
     assert!(rt; listed.is_ok_and(|listed| listed.as_slice() == entries.as_slice()));
+}
+
+#[test]
+fn conditional_calls(rt: HostRuntime) {
+    let mut map = PlainMap::new(rt.alloc());
+    let key = Key::from(5_u32);
+    let (one, two) = (Num::from(1_u32), Num::from(2_u32));
+    let (three, four) = (Num::from(3_u32), Num::from(4_u32));
+    for (row, want, change, before, matched) in [
+        (1, Want::Present, Change::Put(one), None, false),
+        (2, Want::Equal(one), Change::Put(two), None, false),
+        (3, Want::Absent, Change::Put(one), None, true),
+        (4, Want::Absent, Change::Put(two), Some(one), false),
+        (5, Want::Present, Change::Put(three), Some(one), true),
+        (6, Want::Equal(one), Change::Put(four), Some(three), false),
+        (7, Want::Equal(three), Change::Put(four), Some(three), true),
+        (8, Want::Equal(three), Change::Remove, Some(four), false),
+        (9, Want::Equal(four), Change::Remove, Some(four), true),
+        (10, Want::Equal(four), Change::Remove, None, false),
+        (11, Want::Any, Change::Remove, None, true),
+    ] {
+        let reply = map.apply(key, want, change);
+        assert!(rt; reply == replied(before, matched), "row {row}");
+    }
+    assert!(rt; map.get(key).is_none());
 }
 
 /// The fourth add would pass the greatest number. It is refused, and changes nothing.

@@ -1,5 +1,5 @@
-//! Shapes: their places, limits and chunks, those for keys, and what is refused. What of them C asks
-//! for too is in `languages/c/tests/calls.c`.
+//! Shapes: their places, limits and chunks, those for keys, and what is refused. What of them C
+//! asks for too is in `languages/c/tests/calls.c`.
 use nb_core::{HeaderWord, MAX_SEATS, MAX_SLOTS, MAX_STRIPES, MOST_KEYS, Shape, ShapeFault};
 
 /// The shape of these numbers, each put in by the call that is named after it.

@@ -1,5 +1,5 @@
-//! Maps that have entries from the start, also where memory is refused; and seats that are split off
-//! and joined again.
+//! Maps that have entries from the start, also where memory is refused; and seats that are split
+//! off and joined again.
 ghost use Rattle.std.specs.Prelude.{◌≡◌};
 
 use super::rows::Answer::{Nothing, Was};

@@ -5,8 +5,8 @@ use super::rows::Call::{Put, Remove};
 use super::rows::*;
 use nb_map::Handle;
 
-/// A walk that leaves its handle where it is, and is taken on by it; and one that begins with slot 2
-/// of the top table, which has four, and goes up to slot 3 of it.
+/// A walk that leaves its handle where it is, and is taken on by it; and one that begins with slot
+/// 2 of the top table, which has four, and goes up to slot 3 of it.
 #[test]
 fn walks_beside_their_handle(rt: HostRuntime) {
     let mut handle = opened(&rt, rt.alloc(), (2, 1, 1, 1));

@@ -235,8 +235,8 @@ fn three_helpers(rt: HostRuntime) {
     story(&rt, rt.alloc(), &[4, 5], 3, &turns, &SIX);
 }
 
-/// A takes a chunk and stops. B copies the other one. A then takes what lies past the table's end. B
-/// copies what A left, which raises the top word, and A finds each slot of its chunk copied.
+/// A takes a chunk and stops. B copies the other one. A then takes what lies past the table's end.
+/// B copies what A left, which raises the top word, and A finds each slot of its chunk copied.
 #[test]
 fn finished_by_another(rt: HostRuntime) {
     let turns: [(usize, &[Step]); 6] = [

@@ -1,5 +1,5 @@
-//! The map's calls over a chain of tables alone, with small numbers, and looks at what they leave in
-//! the slots.
+//! The map's calls over a chain of tables alone, with small numbers, and looks at what they leave
+//! in the slots.
 ghost use Rattle.std.specs.Prelude.{All, ◌≡◌, ◌≤◌};
 ghost use Rattle.nb_core.specs.Tables.{IsSlot};
 ghost use Rattle.nb_table.specs.Chains.{AreOwn, IsOwn};
@@ -89,8 +89,8 @@ pub(super) fn value_in<R: Abort>(
     encode_value(chain.load_value(seat, g, i, None))
 }
 
-/// Closes the chain with all its seats; without the last one it comes back, and what is in it. These
-/// keys are left, each with its number, and key 1000 isn't.
+/// Closes the chain with all its seats; without the last one it comes back, and what is in it.
+/// These keys are left, each with its number, and key 1000 isn't.
 pub(super) fn leaves<R: Abort>(
     rt: &R,
     alloc: Global,

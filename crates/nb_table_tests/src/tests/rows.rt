@@ -78,8 +78,8 @@ const GROWS_TWICE: [Step; 13] = [
     Live(2, 5, 12, 22),
 ];
 
-/// Keys crowd the first table and are removed, and others fill the next one, which is as large. None
-/// of the first is copied there.
+/// Keys crowd the first table and are removed, and others fill the next one, which is as large.
+/// None of the first is copied there.
 const MAKES_ROOM: [Step; 19] = [
     Put(0, 10),
     Put(4, 14),

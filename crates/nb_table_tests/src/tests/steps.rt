@@ -56,8 +56,8 @@ pub(super) enum Step {
     /// The slot of table 0 is finished, and that of table 1 has a key.
     Done(usize),
     Claimed(usize),
-    /// Table 1 is installed, for a key whose path in table 0 is other keys' up to the limit. Whether
-    /// this step did it.
+    /// Table 1 is installed, for a key whose path in table 0 is other keys' up to the limit.
+    /// Whether this step did it.
     Installs(u64, bool),
     /// The slot of table 0 is copied, and counted. Whether a step of this call turned it finished.
     Copies(usize, bool),
@@ -69,8 +69,8 @@ pub(super) enum Step {
     /// The next chunk is taken, and begins here.
     Takes(u64),
     /// Of the key 0, in the first slot of table 0: its value is primed, and its word was this; its
-    /// home slot in table 1 is claimed; its number is copied there, by this seat first; and the copy
-    /// is finished, which the seat made.
+    /// home slot in table 1 is claimed; its number is copied there, by this seat first; and the
+    /// copy is finished, which the seat made.
     Primes(u64),
     Claims,
     CopiesFirst,

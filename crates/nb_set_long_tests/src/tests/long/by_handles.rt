@@ -1,4 +1,5 @@
-//! Rows of calls by a handle of a typed map; and what a handle with all seats does for the whole map.
+//! Rows of calls by a handle of a typed map; and what a handle with all seats does for the whole
+//! map.
 ghost use Rattle.std.specs.Prelude.{All, ◌≡◌};
 ghost use Rattle.nb_long.specs.Handles.{IsSameMap};
 ghost use Rattle.nb_long.specs.Typed.{LongMapOf};
@@ -52,8 +53,8 @@ pub(super) enum Call {
     Without,
 }
 
-/// Whether a write came to this; to none, where the map is full. Where memory was refused, the value
-/// comes back.
+/// Whether a write came to this; to none, where the map is full. Where memory was refused, the
+/// value comes back.
 fn is_written<R: Abort>(
     rt: &R,
     end: Result<Stored<u64>, LongFault<u64>>,

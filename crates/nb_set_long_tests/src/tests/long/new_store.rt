@@ -1,5 +1,5 @@
-//! Which values a new store has, and what the old one still shows. What else comes of a renewal with
-//! a new store is among the stories.
+//! Which values a new store has, and what the old one still shows. What else comes of a renewal
+//! with a new store is among the stories.
 
 use super::super::plain::shape;
 use super::by_handles::Call::*;
@@ -17,9 +17,9 @@ fn shows_just<R: Abort>(rt: &R, store: &Store<u64>, values: u64) {
     }
 }
 
-/// Of a map with two keys, of which one was written over, and one more was taken out, as many values
-/// are kept as there are keys, and the old store has them all still. A renewal is made again where
-/// its memory is refused, and the map is as it was then: this passes whichever one request is
+/// Of a map with two keys, of which one was written over, and one more was taken out, as many
+/// values are kept as there are keys, and the old store has them all still. A renewal is made again
+/// where its memory is refused, and the map is as it was then: this passes whichever one request is
 /// refused.
 #[test]
 fn refused_memory(rt: HostRuntime) {

@@ -68,8 +68,8 @@ const LISTED_WITH_THEIR_VALUES: [Call; 6] = [
     List(Ok(&[(1, 10), (3, 30)])),
 ];
 
-/// With a new store the slot of a key that was taken out is free, and new values have new numbers. A
-/// shape with fewer slots than there are keys is refused, and the map goes on.
+/// With a new store the slot of a key that was taken out is free, and new values have new numbers.
+/// A shape with fewer slots than there are keys is refused, and the map goes on.
 const GOES_ON_WITH_A_NEW_STORE: [Call; 16] = [
     Put(1, 10),
     Put(2, 20),

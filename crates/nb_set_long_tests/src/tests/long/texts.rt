@@ -17,8 +17,8 @@ fn says<R: Abort + AllocGlobal, E: Display>(rt: &R, fault: &E, text: &str) {
     assert!(rt; said.as_str() == text);
 }
 
-/// A store's refusal, and what a write and an update of the map make of it; those that found no slot,
-/// and those that found a number that shows nothing.
+/// A store's refusal, and what a write and an update of the map make of it; those that found no
+/// slot, and those that found a number that shows nothing.
 #[test]
 fn fault_texts(rt: HostRuntime) {
     let refused: StoreFault<u64> = StoreFault::OutOfMemory(7);

@@ -21,8 +21,8 @@ pub(super) fn nothing(_was: Option<&u64>) -> Option<u64> {
     None
 }
 
-/// Whether an update by `one_more` or `nothing` came to this: whether a value was there, and whether
-/// one is there now. Where memory was refused, the value comes back.
+/// Whether an update by `one_more` or `nothing` came to this: whether a value was there, and
+/// whether one is there now. Where memory was refused, the value comes back.
 pub(super) fn is_updated<R: Abort>(
     rt: &R,
     end: Result<Updated<u64>, UpdateFault<u64>>,

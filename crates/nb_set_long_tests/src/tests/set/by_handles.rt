@@ -255,8 +255,8 @@ fn calls_by_a_handle(rt: HostRuntime) {
     }
 }
 
-/// A table of four slots has no room for five keys. What is left of a set is listed, and another set
-/// begins with it.
+/// A table of four slots has no room for five keys. What is left of a set is listed, and another
+/// set begins with it.
 #[test]
 fn opened_with_what_is_left(rt: HostRuntime) {
     let five = keys(&rt, &[0, 1, 2, 3, 4]);

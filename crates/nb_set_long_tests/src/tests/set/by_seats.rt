@@ -170,8 +170,8 @@ fn rests<R: Abort>(rt: &R, alloc: Global, set: &LongSet, seats: &mut Vec<Seat>, 
     assert!(rt; are_just(listed(rt, alloc, set, seats).as_slice(), numbers));
 }
 
-/// A seat is taken out, without which the set neither settles nor ends, and works on: it comes back,
-/// and the seat meets another one. Then both are given back.
+/// A seat is taken out, without which the set neither settles nor ends, and works on: it comes
+/// back, and the seat meets another one. Then both are given back.
 fn works_on<R: Wait + Abort>(
     rt: &R,
     alloc: Global,
