@@ -102,14 +102,15 @@ fn add_often(counter: &Counter, seat: &mut CountSeat, amount: i64)
 fn eight_threads(rt: HostRuntime) {
     for stripes in 1..9 {
         let (counter, mut seats) = made(&rt, rt.alloc(), stripes, 8);
+        let on = &counter;
         thread::for_each_mut(
             &rt,
             seats.as_mut_slice(),
             8,
             &|_, seat: &mut CountSeat|
-                requires { IsOwn counter.now seat.now }
-                ensures { IsOwn counter.entry.now seat.exit.now }
-            { add_often(&counter, seat, 3) },
+                requires { IsOwn on.now seat.now }
+                ensures { IsOwn on.entry.now seat.exit.now }
+            { add_often(on, seat, 3) },
         );
         assert!(rt; counter.close(seats).ok() == Some(240_000));
     }

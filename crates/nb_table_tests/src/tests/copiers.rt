@@ -58,14 +58,15 @@ const IS_COMPLETE: [Step; 16] = [
 fn complete_one_table<R: Threads + Sync + Abort>(rt: &R, alloc: Global, threads: usize) {
     let (chain, mut seats) = chain_of(rt, alloc, &[4, 5], threads);
     by_turns(rt, &chain, seats.as_mut_slice(), &[(0, &FILLS_TWO_CHUNKS)]);
+    let on = &chain;
     thread::for_each_mut(
         rt,
         seats.as_mut_slice(),
         8,
         &|_, seat: &mut ChainSeat|
-            requires { IsOwn chain.now seat.now }
-            ensures { IsOwn chain.entry.now seat.exit.now }
-        { goes(rt, &chain, seat, &[Completes]) },
+            requires { IsOwn on.now seat.now }
+            ensures { IsOwn on.entry.now seat.exit.now }
+        { goes(rt, on, seat, &[Completes]) },
     );
     let turns: [(usize, &[Step]); 2] = [(0, &IS_COMPLETE), (0, &IS_COPIED)];
     by_turns(rt, &chain, seats.as_mut_slice(), &turns);
@@ -119,14 +120,15 @@ fn four_turn_one_table<R: Threads + Sync + Abort>(rt: &R, alloc: Global, counted
     let (chain, mut seats) = chain_of(rt, alloc, &[4, 5], 4);
     by_turns(rt, &chain, seats.as_mut_slice(), &[(0, &FILLS_TWO_CHUNKS)]);
     let turned = AtomicUsize::new(0);
+    let (on, all) = (&chain, &turned);
     thread::for_each_mut(
         rt,
         seats.as_mut_slice(),
         4,
         &|_, seat: &mut ChainSeat|
-            requires { IsOwn chain.now seat.now }
-            ensures { IsOwn chain.entry.now seat.exit.now }
-        { turns_alone(&chain, seat, counted, &turned) },
+            requires { IsOwn on.now seat.now }
+            ensures { IsOwn on.entry.now seat.exit.now }
+        { turns_alone(on, seat, counted, all) },
     );
     assert_eq!(rt; turned.load(Ordering::SeqCst), 16);
     let turns: [(usize, &[Step]); 3] = [

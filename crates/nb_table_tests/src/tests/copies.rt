@@ -134,9 +134,8 @@ fn stopped<R: Abort>(
     after: &[Step],
 ) {
     let (chain, mut seats) = chain_of(rt, alloc, &[2, 3, 4], 2);
-    let (Some(mut b), Some(mut a)) = (seats.pop(), seats.pop()) else {
-        panic!(rt; "there are two seats")
-    };
+    let mut b = taken(rt, &chain, &mut seats);
+    let mut a = taken(rt, &chain, &mut seats);
     stops_and_goes_on(rt, &chain, &mut a, &mut b, above, before, after);
     seats.push(a).expect(rt, "memory");
     seats.push(b).expect(rt, "memory");

@@ -24,6 +24,15 @@ pub(super) fn chain_of<R: Abort>(
     Chain::new(alloc, shape).expect(rt, "memory")
 }
 
+/// One of the seats.
+pub(super) fn taken<R: Abort>(rt: &R, chain: &Chain, seats: &mut Vec<ChainSeat>) -> ChainSeat
+    requires own { All (IsOwn chain.now) seats.old.items }
+    ensures taken { IsOwn chain.now result }
+    ensures left { All (IsOwn chain.now) seats.new.items }
+{
+    seats.pop().expect(rt, "there is a seat")
+}
+
 /// The key, which is a small one.
 pub(super) fn key<R: Abort>(rt: &R, key: u64) -> Key
     ensures { result ≡ key }

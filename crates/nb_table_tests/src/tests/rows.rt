@@ -206,9 +206,8 @@ fn contends<R: Abort>(
     tries: u32,
 ) -> (Result<Reply, PutFault>, Option<Num>) {
     let (chain, mut seats) = chain_of(rt, alloc, &[2], 2);
-    let (Some(mut a), Some(seat)) = (seats.pop(), seats.pop()) else {
-        panic!(rt; "there are two seats")
-    };
+    let mut a = taken(rt, &chain, &mut seats);
+    let seat = taken(rt, &chain, &mut seats);
     assert!(rt; tries > 0);
     let seven = key(rt, 7);
     let mut pause = PutsOnce {
@@ -227,15 +226,18 @@ fn contends<R: Abort>(
 /// The rows contended_once and add_contended_once: a put of 5, and an add of 5.
 #[test]
 fn contended_once(rt: HostRuntime) {
-    let (five, six) = (number(&rt, 5), number(&rt, 6));
-    let (before, matched) = (Some(six), true);
-    let made = Ok(Reply { before, matched });
-    for (change, tries, answer, left) in [
-        (Change::Put(five), 1, Err(PutFault::Contended), six),
-        (Change::Put(five), 2, made, five),
-        (Change::Add(five), 2, made, number(&rt, 11)),
-    ] {
-        let ended = contends(&rt, rt.alloc(), change, tries);
-        assert!(rt; ended == (answer, Some(left)), "{change:?}");
+    let five = number(&rt, 5);
+    let rows: [(Change, u32, Option<u64>, u64); 3] = [
+        (Change::Put(five), 1, None, 6),
+        (Change::Put(five), 2, Some(6), 5),
+        (Change::Add(five), 2, Some(6), 11),
+    ];
+    for (change, tries, found, left) in rows {
+        let (answer, is) = contends(&rt, rt.alloc(), change, tries);
+        match answer {
+            Ok(reply) => assert!(rt; reply.matched && reply.before.map(Num::get) == found),
+            Err(fault) => assert!(rt; fault == PutFault::Contended && found.is_none()),
+        }
+        assert!(rt; is.map(Num::get) == Some(left));
     }
 }
