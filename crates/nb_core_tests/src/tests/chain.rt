@@ -37,23 +37,18 @@ fn closed<R: Abort>(rt: &R, chain: Chain, seats: Vec<ChainSeat>) -> Closed
     closed
 }
 
-/// A chain closes with all its seats, settled or not, whether it has one table or more. Fresh
-/// chains are empty: `fresh_chains_are_empty`.
+/// A chain closes with all its seats, settled twice, whether it has one table or more. Fresh chains
+/// are empty: `fresh_chains_are_empty`.
 #[test]
 fn all_seats_close(rt: HostRuntime) {
     let greatest = Key::new(KEY_MAX).expect(&rt, "a key");
-    for (bits, generations, count, settles) in [
-        (3, 1, 2, false),
-        (3, 2, 2, true),
-        (3, 3, 2, true),
-        (2, 3, 4, false),
-    ] {
+    for (bits, generations, count) in [(3, 1, 2), (3, 2, 2), (3, 3, 2), (2, 3, 4)] {
         let shape = Shape::new(bits, generations, count, 1).expect(&rt, "a shape");
-        let (chain, mut seats) = made(&rt, rt.alloc(), shape);
-        if settles {
-            chain.settle(&mut seats);
-            chain.settle(&mut seats);
-        }
+        let Ok((chain, mut seats)) = Chain::new(rt.alloc(), shape) else {
+            panic!(rt; "memory")
+        };
+        chain.settle(&mut seats);
+        chain.settle(&mut seats);
         assert!(rt; seats.len() == count && chain.shape().generations() == generations);
         let closed = closed(&rt, chain, seats);
         for key in [Key::from(0_u32), Key::from(5_u32), greatest] {

@@ -81,12 +81,12 @@ fn extend_puts_in_order(rt: HostRuntime) {
 fn get_many_finds_what_get_finds(rt: HostRuntime) {
     let mut handle = opened(&rt, rt.alloc(), (2, 2, 1, 1));
     sees(&rt, &mut handle, &SPREAD);
-    let keys = [9_u32, 3, 1, 5, 9, 13, 2].map(Key::from);
-    let mut found = [None; 7];
+    let (nine, absent, two) = (key(&rt, 9), key(&rt, 3), key(&rt, 2));
+    let keys = [nine, absent, two, nine, key(&rt, 13)];
+    let mut found = [None; 5];
     handle.get_many(&keys, &mut found);
-    for (key, number) in keys.iter().zip(found.iter()) {
-        assert!(rt; *number == handle.get(*key));
-    }
-    assert!(rt; found[0].map(Num::get) == Some(90));
+    let (ninety, twenty) = (number(&rt, 90), number(&rt, 20));
+    let due = [Some(ninety), None, Some(twenty), Some(ninety), None];
+    assert!(rt; found == due);
     handle.get_many(&[], &mut []);
 }
