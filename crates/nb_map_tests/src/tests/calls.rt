@@ -4,9 +4,7 @@ use super::rows::Answer::{Is, Nothing, Replied, Was};
 use super::rows::Call::*;
 use super::rows::*;
 use nb_core::VALUE_MAX;
-use nb_map::{
-    AddFault, Full, FullAfter, Occupancy, OpenFault, PutFault, RenewFault, SettleFault, SplitFault,
-};
+use nb_map::{AddFault, Full, FullAfter, OpenFault, PutFault, RenewFault, SettleFault, SplitFault};
 use std::alloc::Global;
 use std::fmt::Display;
 use std::process::Abort;
@@ -126,38 +124,14 @@ fn calls_by_a_handle(rt: HostRuntime) {
     }
 }
 
-/// A removed key has its slot still. Once a map has grown, its next table is looked at, to which
-/// the removed key wasn't copied.
+/// What part of the slots is taken. More looks at how full a map is are in
+/// `languages/c/tests/rows.c`.
 #[test]
 fn tells_how_full(rt: HostRuntime) {
-    let four = [
-        (0, Put(10), Nothing),
-        (1, Put(11), Nothing),
-        (2, Put(12), Nothing),
-        (3, Put(13), Nothing),
-        (0, Remove, Was(10)),
-    ];
-    let two = [(4, Put(14), Nothing), (5, Put(15), Nothing)];
-    let steps: [(&[Row], u32, u32, u32, u64); 4] = [
-        (&[], 0, 0, 4, 0),
-        (&four, 0, 4, 4, 100),
-        (&two, 1, 5, 8, 62),
-        (&[(6, Put(16), Nothing)], 1, 6, 8, 75),
-    ];
-    let mut handle = opened(&rt, rt.alloc(), (2, 2, 1, 1));
-    for (rows, table, taken, looked, percent) in steps {
-        sees(&rt, &mut handle, rows);
-        let is_last = table == 1;
-        let due = Occupancy {
-            table,
-            is_last,
-            looked,
-            taken,
-        };
-        let seen = handle.occupancy();
-        assert!(rt; seen == due && seen.percent() == percent);
-        assert!(rt; seen.should_renew() == (percent == 75));
-    }
+    let mut handle = opened(&rt, rt.alloc(), (2, 1, 1, 1));
+    sees(&rt, &mut handle, &[(1, Put(11), Nothing)]);
+    let seen = handle.occupancy();
+    assert!(rt; seen.percent() == 25 && seen.is_last && !seen.should_renew());
 }
 
 /// Each of these says its line of the text.

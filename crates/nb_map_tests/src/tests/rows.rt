@@ -264,10 +264,12 @@ pub(super) fn ended<R: Wait + Abort>(rt: &R, handle: Handle) -> Ended {
 
 /// Whether these are the entries, in whatever order.
 pub(super) fn are_just(entries: &[(Key, Num)], pairs: &[(u64, u64)]) -> bool {
-    let are_all = entries
-        .iter()
-        .all(|(k, n)| pairs.contains(&(k.get(), n.get())));
-    are_all && entries.len() == pairs.len()
+    for (k, n) in entries {
+        if !pairs.contains(&(k.get(), n.get())) {
+            return false;
+        }
+    }
+    entries.len() == pairs.len()
 }
 
 /// Ends the map of this whole handle. These keys are left, each with its number.

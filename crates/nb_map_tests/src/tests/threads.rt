@@ -6,7 +6,7 @@ use super::rows::Answer::{Nothing, Was};
 use super::rows::Call::*;
 use super::rows::*;
 use nb_core::{Key, Num};
-use nb_map::{Handle, RenewFault, SettleFault};
+use nb_map::Handle;
 use std::alloc::Global;
 use std::process::Abort;
 use std::sync::Wait;
@@ -46,27 +46,11 @@ fn settled_listed_and_renewed_between_rounds(rt: HostRuntime) {
     assert!(rt; handle.settle(rt.alloc()) == Ok(1));
     sees(&rt, &mut handle, &[(9, Put(1), Nothing), (7, Get, Was(4))]);
     let mut handle = all_add(&rt, rt.alloc(), handle, key, once);
-    let listed = handle.entries(rt.alloc());
-    assert!(rt; listed.is_ok_and(|listed| are_just(listed.as_slice(), &[(7, 8), (9, 1)])));
+    let listed = handle.entries(rt.alloc()).expect(&rt, "all seats are here");
+    assert!(rt; are_just(listed.as_slice(), &[(7, 8), (9, 1)]));
     assert!(rt; handle.renew(rt.alloc(), shape(&rt, (4, 4, 4, 1))).is_ok());
     let handle = all_add(&rt, rt.alloc(), handle, key, once);
     leaves(&rt, rt.alloc(), handle, &[(7, 12), (9, 1)]);
-}
-
-/// A seat is missing: nothing is settled, listed or made anew, the handle comes back, and the map
-/// works on.
-#[test]
-fn without_a_handle(rt: HostRuntime) {
-    let (_, mut handle) = two(&rt, rt.alloc());
-    assert!(rt; handle.settle(rt.alloc()) == Err(SettleFault::NotAll));
-    assert!(rt; handle.entries(rt.alloc()).err() == Some(SettleFault::NotAll));
-    let refused = handle.renew(rt.alloc(), shape(&rt, (2, 1, 2, 1)));
-    assert!(rt; refused == Err(RenewFault::NotAll));
-    sees(&rt, &mut handle, &[(7, Put(1), Nothing)]);
-    let Err(mut back) = handle.close(&rt) else {
-        panic!(rt; "a seat is missing")
-    };
-    sees(&rt, &mut back, &[(7, Get, Was(1))]);
 }
 
 /// Another thread, to which the handle is moved, asks for the key.
@@ -91,10 +75,8 @@ const ROUNDS: u64 = 2000;
 
 const SHARED: u64 = 200;
 
-/// The keys to whose numbers threads add by an add and by an update, those whose numbers they raise
-/// and lower, and the first of three that come and go.
-const ADDED: u64 = 1000;
-
+/// The key to whose number threads add by updates, those whose numbers they raise and lower, and the
+/// one that comes and goes.
 const UPDATED: u64 = 1001;
 
 const UP: u64 = 1002;
@@ -103,23 +85,17 @@ const DOWN: u64 = 1003;
 
 const PASSING: u64 = 1004;
 
-/// Adds 1 twice, and raises one key's number and lowers another's by the thread's own. What is
-/// inserted at a key that all share stays there, and keys come and go beside it. An update is
+/// Adds 1 by an update, and raises one key's number and lowers another's by the thread's own. What is
+/// inserted at a key that all share stays there, and a key comes and goes beside it. An update is
 /// contended only where others won as many exchanges on the key as it has tries, and they win fewer
 /// in all.
 fn round<R: Wait + Abort>(rt: &R, handle: &mut Handle, own: u64) {
-    let (one, number) = (number(rt, 1), number(rt, own % 16_000));
-    assert!(rt; handle.add(rt, key(rt, ADDED), one).is_ok());
+    let number = number(rt, own % 16_000);
     assert!(rt; handle.try_update(key(rt, UPDATED), 8000, one_more).is_ok());
     assert!(rt; handle.fetch_max(key(rt, UP), number, 1_000_000).is_ok());
     assert!(rt; handle.fetch_min(key(rt, DOWN), number, 1_000_000).is_ok());
-    let passing = key(rt, PASSING + own % 3);
-    assert!(rt; handle.put_if_absent(rt, passing, number).is_ok());
-    let _ = handle.replace(rt, passing, number);
-    let _ = handle.remove(rt, passing);
-    assert!(rt; handle.put(rt, passing, number).is_ok());
-    let _ = handle.replace_if(rt, passing, number, one);
-    let _ = handle.remove_if(rt, passing, one);
+    assert!(rt; handle.put(rt, key(rt, PASSING), number).is_ok());
+    let _ = handle.remove(rt, key(rt, PASSING));
     let shared = key(rt, own % SHARED);
     let now = handle.get_or_insert(rt, shared, number);
     assert!(rt; now.is_ok() && handle.get(shared) == now.ok());
@@ -132,7 +108,7 @@ fn rounds<R: Wait + Abort>(rt: &R, handle: &mut Handle, thread: u64) {
     }
 }
 
-/// Four threads call while the map grows: none of their adds and updates is lost, the greatest and
+/// Four threads call while the map grows: none of their updates is lost, the greatest and
 /// the least of all numbers are left, and one thread wins each key that all insert at.
 #[test]
 fn threads_call(rt: HostRuntime) {
@@ -144,15 +120,12 @@ fn threads_call(rt: HostRuntime) {
         &|thread: usize, handle: &mut Handle| { rounds(&rt, handle, thread as u64) },
     );
     let mut handle = handles.pop().expect(&rt, "a handle");
-    for passing in 0..3 {
-        let _ = handle.remove(&rt, key(&rt, PASSING + passing));
-    }
     let rows = [
-        (ADDED, Get, Was(8000)),
         (UPDATED, Get, Was(8000)),
         (UP, Get, Was(9999)),
         (DOWN, Get, Was(2000)),
-        (0, Estimate, Was(SHARED + 4)),
+        (PASSING, Get, Nothing),
+        (0, Estimate, Was(SHARED + 3)),
     ];
     sees(&rt, &mut handle, &rows);
 }

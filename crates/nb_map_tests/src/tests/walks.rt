@@ -1,30 +1,9 @@
-//! Walks by handles. What walks show, one after another and beside threads that write, is in
-//! `languages/c/tests/rows.c` and `languages/c/tests/threads.c`.
+//! Loops over handles. What walks show, one after another and beside threads that write, and parts of
+//! them, are in `languages/c/tests`.
 use super::rows::Answer::{Nothing, Was};
 use super::rows::Call::{Put, Remove};
 use super::rows::*;
 use nb_map::Handle;
-
-/// A walk that leaves its handle where it is, and is taken on by it; and one that begins with slot
-/// 2 of the top table, which has four, and goes up to slot 3 of it.
-#[test]
-fn walks_beside_their_handle(rt: HostRuntime) {
-    let mut handle = opened(&rt, rt.alloc(), (2, 1, 1, 1));
-    sees(
-        &rt,
-        &mut handle,
-        &[(1, Put(11), Nothing), (2, Put(12), Nothing)],
-    );
-    let mut walk = handle.begin_walk();
-    assert!(rt; handle.next_key(&mut walk) == Some(entry(&rt, 1, 11)));
-    assert!(rt; handle.next_key(&mut walk) == Some(entry(&rt, 2, 12)));
-    assert!(rt; handle.next_key(&mut walk).is_none());
-    assert!(rt; handle.walk_from_slot(4).is_none());
-    let Some(mut at) = handle.walk_from_slot(2) else {
-        panic!(&rt; "there is such a slot");
-    };
-    assert!(rt; handle.next_key_before(&mut at, 3) == Some(entry(&rt, 2, 12)));
-}
 
 /// The sums of the keys and of the numbers of a handle's map. The loop takes the handle with it.
 fn sums_of(handle: Handle) -> (u64, u64) {
