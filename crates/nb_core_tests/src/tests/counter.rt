@@ -1,5 +1,5 @@
 //! The counter, by seats and by threads.
-ghost use Rattle.std.specs.Prelude.{◌≡◌, ◌≤◌};
+ghost use Rattle.std.specs.Prelude.{◌≤◌};
 ghost use Rattle.nb_core.specs.declared.shapes.TheConstants.{MAX_SEATS, MAX_STRIPES};
 ghost use Rattle.nb_count.specs.Counts.{AreOwn, IsOwn};
 

@@ -1,5 +1,4 @@
 //! Threads that call one map by handles, and handles that wait for one another.
-ghost use Rattle.std.specs.Prelude.{◌≡◌};
 ghost use Rattle.nb_map.specs.Handles.{IsSameMap};
 
 use super::rows::Answer::{Nothing, Was};

@@ -1,5 +1,4 @@
 //! Copies by several threads at once.
-ghost use Rattle.std.specs.Prelude.{All};
 ghost use Rattle.nb_core.specs.Tables.{IsInstalled, IsSlot};
 ghost use Rattle.nb_table.specs.Chains.{IsOwn, seen_by};
 

@@ -1,7 +1,7 @@
 //! Two threads that share a typed map by its seats, and the receipts of what they put.
 ghost use Rattle.std.specs.Prelude.{◌≡◌};
 ghost use Rattle.boxcar.specs.Table.{Shows};
-ghost use Rattle.nb_map.specs.Maps.{AreMine, IsMine};
+ghost use Rattle.nb_map.specs.Maps.{IsMine};
 
 use super::super::plain::key;
 use super::values::{found, given_back, left_by, made, taken};

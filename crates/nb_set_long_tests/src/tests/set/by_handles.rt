@@ -6,7 +6,7 @@ use super::super::plain::{Sizes, key, shape};
 use super::rows::Call::*;
 use super::rows::{Call, OVER_MANY_KEYS, REFUSALS_WHEN_FULL, SET_OF_KEYS, are_just, keys, stays};
 use nb_core::Shape;
-use nb_set::{FullAfter, Handle, OpenFault, RenewFault, SetEnded, SettleFault};
+use nb_set::{Handle, OpenFault, RenewFault, SetEnded, SettleFault};
 use std::alloc::Global;
 use std::process::Abort;
 use std::sync::Wait;

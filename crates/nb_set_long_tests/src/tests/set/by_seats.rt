@@ -1,6 +1,5 @@
 //! Calls of a set by its seats. A call that takes memory is made again where its memory is refused,
 //! and then has it.
-ghost use Rattle.std.specs.Prelude.{◌≡◌};
 ghost use Rattle.nb_set.specs.Sets.{AreMine, IsMine};
 
 use super::super::plain::{Sizes, key, shape};
@@ -8,7 +7,7 @@ use super::by_handles::has_left;
 use super::rows::Call::*;
 use super::rows::{Call, OVER_MANY_KEYS, REFUSALS_WHEN_FULL, SET_OF_KEYS, are_just, keys, stays};
 use nb_core::{Key, NotAll};
-use nb_set::{FullAfter, LongSet, Seat, SetEnded, SettleFault};
+use nb_set::{LongSet, Seat, SetEnded, SettleFault};
 use std::alloc::Global;
 use std::process::Abort;
 use std::sync::Wait;
