@@ -14,7 +14,7 @@ version="$(cat "$top/VERSION")"
 name="libsamvolip.so.${version%%.*}"
 [ -f "$archive" ] || { echo "build.sh: first run rt lib in crates/nb_ffi" >&2; exit 1; }
 mkdir -p "$to"
-sources=(memory map lanes gate renewal whole walks words objects)
+sources=(memory map lanes gate renewal whole_map walks bindings objects)
 for source in "${sources[@]}"; do
     "${CC:-cc}" -std=gnu11 -O2 -fPIC -Wall -Wextra -I"$here/include" -c "$here/src/$source.c" -o "$to/$source.o"
 done

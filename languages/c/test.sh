@@ -21,11 +21,11 @@ calls           archive kit shared sanitized
 rows            archive checked musl sanitized
 composed        archive checked=20000 sanitized=5000
 threads         archive checked=20000 sanitized=5000
-wide            archive checked=500,100000 sanitized=200,50000
+many_seats      archive checked=500,100000 sanitized=200,50000
 large           archive sanitized=6
 checked         archive
 blocks          memory sanitized=100
-words           archive musl sanitized
+bindings        archive musl sanitized
 objects         archive fenced=20000 sanitized=5000
 endless         archive musl=all,0.05 fenced=all,0.1 small=the_largest_table_fills divided=all,0.1 sanitized=all,0.1
 edges           archive fenced=all,0.2 divided=all,0.5 sanitized=all,0.5

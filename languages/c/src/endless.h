@@ -1,4 +1,4 @@
-/* endless.h - what the files of the map of samvolip_map.h share: map.c, lanes.c, gate.c, renewal.c, whole.c and walks.c, which stand
+/* endless.h - what the files of the map of samvolip_map.h share: map.c, lanes.c, gate.c, renewal.c, whole_map.c and walks.c, which stand
    over a proved map, called a core, and are not proved.
 
    A map has one part, or PARTS by bits of the key once it is large. Each part has a core, which a renewal puts another one in the

@@ -1,7 +1,7 @@
 /* More seats and larger tables: 256 threads add to one map while it grows through all its tables, and each key's number is right;
    so do 64 threads, each to the same keys one after another, in a map of small tables and short paths; four threads fill a map
    whose last table has 2^22 slots, with as many keys as it is made for, and all is read back, also after the map is made anew.
-       wide [ADDS [KEYS]]      how often each of the 256 threads adds, and how many keys fill the other map */
+       many_seats [ADDS [KEYS]]      how often each of the 256 threads adds, and how many keys fill the other map */
 #include "crew.h"
 
 enum { ADDERS = 256, ADDED_KEYS = 8000, FILLERS = 4, EQUALS = 64, EQUAL_KEYS = 2000 };
@@ -177,6 +177,6 @@ int main(int count, char **words)
     many_seats();
     many_seats_add_while_the_map_grows();
     many_keys();
-    puts("wide: well");
+    puts("many_seats: well");
     return 0;
 }

@@ -1,4 +1,4 @@
-/* whole.c - the calls of samvolip_map.h that are of a whole map. But for the estimate of its size, they are alone with it. */
+/* whole_map.c - the calls of samvolip_map.h that are of a whole map. But for the estimate of its size, they are alone with it. */
 #include "endless.h"
 
 int samvolip_map_size_estimate(samvolip_map *map, uint64_t *size)

@@ -129,6 +129,6 @@ int main(void)
     answers_in_one_word();
     calls_many_keys();
     lets_go_around_waits();
-    puts("words: well");
+    puts("bindings: well");
     return 0;
 }

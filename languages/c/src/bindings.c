@@ -1,4 +1,5 @@
-/* words.c - the calls of samvolip_map.h that answer in one word, and those of many keys or entries at a time. */
+/* bindings.c - what bindings of other languages call: the calls of samvolip_map.h that answer in one word, and those of many keys or
+   entries at a time. */
 #include "samvolip_map.h"
 
 /* What a call has found, by its code. */
