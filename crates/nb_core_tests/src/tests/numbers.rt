@@ -35,12 +35,10 @@ fn keys_and_numbers(rt: HostRuntime) {
     }
     let (key, number) = (Key::from(4_294_967_295_u32), Num::from(4_294_967_295_u32));
     assert!(rt; (u64::from(key), u64::from(number)) == (4_294_967_295, 4_294_967_295));
-    let shown = format!(in rt.alloc();
-        "{key} {number}; {:>3} {:03}",
-        Key::from(7_u32),
-        Num::from(5_u32)
-    );
-    assert!(rt; shown.is_ok_and(|shown| shown.as_str() == "4294967295 4294967295;   7 005"));
+    let (seven, five) = (Key::from(7_u32), Num::from(5_u32));
+    let shown = format!(in rt.alloc(); "{key} {number}; {seven:>3} {five:03}");
+    let shown = shown.expect(&rt, "memory");
+    assert!(rt; shown.as_str() == "4294967295 4294967295;   7 005");
 }
 
 /// A text is no number either where the digits before another byte are too many.

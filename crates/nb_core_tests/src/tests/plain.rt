@@ -1,5 +1,5 @@
 //! The plain map.
-use nb_core::{Change, Key, Num, OutOfMemory, PlainFault, PlainMap, Reply, VALUE_MAX, Want};
+use nb_core::{Change, Key, Num, PlainFault, PlainMap, Reply, VALUE_MAX, Want};
 use std::process::Abort;
 
 fn replied(before: Option<Num>, matched: bool) -> Result<Reply, PlainFault> {
@@ -24,8 +24,8 @@ fn plain_map(rt: HostRuntime) {
     }
     assert!(rt; map.get(one) == Some(five) && map.len() == 3);
     let entries = [(zero, five), (one, five), (last, six)];
-    let listed = map.entries(rt.alloc());
-    assert!(rt; listed.is_ok_and(|listed| listed.as_slice() == entries.as_slice()));
+    let listed = map.entries(rt.alloc()).expect(&rt, "memory");
+    assert!(rt; listed.as_slice() == entries.as_slice());
 }
 
 #[test]
@@ -99,10 +99,10 @@ fn refused_memory(rt: HostRuntime) {
         }
         assert!(rt; reply == replied(None, true));
     }
-    let are_all = |listed: Result<Vec<(Key, Num)>, OutOfMemory>| match listed {
-        Ok(entries) => entries.len() == 150,
-        Err(_) => false,
+    let listed = match map.entries(rt.alloc()) {
+        Ok(entries) => Ok(entries),
+        Err(_) => map.entries(rt.alloc()),
     };
-    assert!(rt; are_all(map.entries(rt.alloc())) || are_all(map.entries(rt.alloc())));
+    assert!(rt; listed.expect(&rt, "memory").len() == 150);
     assert_counts_to(&rt, &map, 150);
 }

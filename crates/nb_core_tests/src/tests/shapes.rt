@@ -240,7 +240,10 @@ fn shapes_for_keys(rt: HostRuntime) {
         (100, usize::MAX, seats),
     ];
     for (most, seats, due) in rows {
-        let due = due.and_then(|exponents| made(exponents, seats, seats.min(16), 18, 32));
+        let due = match due {
+            Ok(exponents) => made(exponents, seats, seats.min(16), 18, 32),
+            Err(fault) => Err(fault),
+        };
         assert!(rt;
             Shape::for_keys(most, seats) == due,
             "for {most} keys, {seats} seats"
@@ -285,7 +288,10 @@ const CHURN: [(usize, usize, usize, Result<&[u32], ShapeFault>); 28] = [
 #[test]
 fn shapes_for_churn(rt: HostRuntime) {
     for (live, ever, seats, due) in CHURN {
-        let due = due.and_then(|exponents| made(exponents, seats, seats.min(16), u32::MAX, 64));
+        let due = match due {
+            Ok(exponents) => made(exponents, seats, seats.min(16), u32::MAX, 64),
+            Err(fault) => Err(fault),
+        };
         assert!(rt;
             Shape::for_churn(live, ever, seats) == due,
             "for {live} of {ever} keys, {seats} seats"
