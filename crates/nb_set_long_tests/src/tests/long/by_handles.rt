@@ -100,8 +100,10 @@ fn makes<R: Wait + Abort>(rt: &R, alloc: Global, handle: &mut Handle<u64>, call:
         Remove(k, done) => handle.remove(rt, key(rt, k)).is_some() == done,
         RemoveIf(k, old, done) => handle.remove_if(rt, key(rt, k), &old) == Ok(done),
         TakeIf(k, old, done) => {
-            let end = handle.take_if(rt, key(rt, k), &old);
-            end.is_ok_and(|compared| compared.done == done)
+            match handle.take_if(rt, key(rt, k), &old) {
+                Ok(compared) => compared.done == done,
+                Err(_) => false,
+            }
         }
         Value(k, value) => value_at(rt, handle, key(rt, k)) == value,
         Occupancy(taken, looked) => {
@@ -110,18 +112,19 @@ fn makes<R: Wait + Abort>(rt: &R, alloc: Global, handle: &mut Handle<u64>, call:
         }
         Seats(seats) => handle.shape().seats() == seats,
         Settle(size) => handle.settle(alloc) == size,
-        List(values) => match handle.entries(alloc) {
-            Ok(entries) => {
-                values.is_ok_and(|values| are_just(rt, handle, entries.as_slice(), values))
-            }
-            Err(fault) => values.err() == Some(fault),
+        List(values) => match (handle.entries(alloc), values) {
+            (Ok(entries), Ok(values)) => are_just(rt, handle, entries.as_slice(), values),
+            (Err(fault), Err(due)) => fault == due,
+            _ => false,
         },
         Renew(sizes, end, count) => {
             handle.renew(alloc, shape(rt, sizes)) == end && handle.seats() == count
         }
         RenewStore(sizes, carried) => {
-            let end = handle.renew_store(rt, alloc, shape(rt, sizes));
-            end.map(|renewed| renewed.carried.len()) == carried
+            match handle.renew_store(rt, alloc, shape(rt, sizes)) {
+                Ok(renewed) => carried == Ok(renewed.carried.len()),
+                Err(fault) => carried == Err(fault),
+            }
         }
         Without => handle.split().is_ok(),
         _ => writes(rt, handle, call),

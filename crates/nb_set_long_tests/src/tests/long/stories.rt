@@ -177,8 +177,8 @@ const UPDATE_COMPUTES: [Call; 12] = [
 #[test]
 fn calls_by_handles(rt: HostRuntime) {
     let (mut mine, mut theirs) = two(&rt, opened(&rt, rt.alloc(), shape(&rt, (4, 4, 2, 1))));
-    sees(&rt, rt.alloc(), &mut mine, &COMES_FIRST, false);
     mine.meet(&mut theirs);
+    sees(&rt, rt.alloc(), &mut mine, &COMES_FIRST, false);
     sees(&rt, rt.alloc(), &mut theirs, &COMPARES, false);
     sees(&rt, rt.alloc(), &mut mine, &UPDATE_COMPUTES, false);
 }

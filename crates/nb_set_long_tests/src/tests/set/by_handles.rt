@@ -45,9 +45,10 @@ fn looks<R: Abort>(rt: &R, alloc: Global, handle: &mut Handle, call: Call) -> bo
         }
         Seats(seats) => handle.shape().seats() == seats,
         Settle(size) => handle.settle(alloc) == size,
-        List(numbers) => match handle.keys(alloc) {
-            Ok(keys) => numbers.is_ok_and(|numbers| are_just(keys.as_slice(), numbers)),
-            Err(fault) => numbers.err() == Some(fault),
+        List(numbers) => match (handle.keys(alloc), numbers) {
+            (Ok(keys), Ok(numbers)) => are_just(keys.as_slice(), numbers),
+            (Err(fault), Err(due)) => fault == due,
+            _ => false,
         },
         Renew(sizes, end, count) => {
             handle.renew(alloc, shape(rt, sizes)) == end && handle.seats() == count

@@ -109,6 +109,10 @@ pub(super) fn keys<R: Abort>(rt: &R, numbers: &[u64]) -> [Key; 8] {
 
 /// Whether these are the keys, in whatever order.
 pub(super) fn are_just(keys: &[Key], numbers: &[u64]) -> bool {
-    let are_all = keys.iter().all(|key| numbers.contains(&key.get()));
-    are_all && keys.len() == numbers.len()
+    for key in keys {
+        if !numbers.contains(&key.get()) {
+            return false;
+        }
+    }
+    keys.len() == numbers.len()
 }

@@ -82,8 +82,8 @@ fn digits_by(handle: Handle) -> (u64, Handle) {
 /// end.
 fn two_digits_beside<R: Abort>(rt: &R, handle: &mut Handle) {
     let mut walk = handle.begin_walk();
-    assert!(rt; handle.next_key(&mut walk).map(Key::get) == Some(7));
-    assert!(rt; handle.next_key(&mut walk).map(Key::get) == Some(3));
+    assert!(rt; handle.next_key(&mut walk) == Some(key(rt, 7)));
+    assert!(rt; handle.next_key(&mut walk) == Some(key(rt, 3)));
     assert!(rt; handle.next_key(&mut walk).is_none());
     assert!(rt; handle.next_key(&mut walk).is_none());
 }
