@@ -6,6 +6,8 @@
 
 mod closing;
 mod counting;
+#[cfg(test)]
+mod example_tests;
 mod faults;
 mod gathered;
 mod guest;
