@@ -57,16 +57,8 @@ fn not_all_is_an_error(rt: HostRuntime) {
 
 #[test]
 fn fault_texts_of_programs(rt: HostRuntime) {
-    let causes = [
-        Cause::NotANumber,
-        Cause::TooLarge,
-        Cause::TooLong,
-        Cause::NoRequest,
-        Cause::GetAlone,
-        Cause::PutAlone,
-    ];
-    let text = "not a number\nnumber too large\nline too long\nneither get nor put\n\
-        get without a key\nput without a key\n";
+    let causes = [Cause::NotANumber, Cause::TooLarge, Cause::TooLong];
+    let text = "not a number\nnumber too large\nline too long\n";
     assert_said(&rt, rt.alloc(), &causes, text);
     let help = String::from_str(rt.alloc(), "a help\n").expect(&rt, "memory");
     let wrong = String::from_str(rt.alloc(), "--top 0: not from 1 to 9").expect(&rt, "memory");
@@ -80,7 +72,6 @@ fn fault_texts_of_programs(rt: HostRuntime) {
         ProgramFault::Full,
         ProgramFault::TooOften,
         ProgramFault::MemoryLimit(12),
-        ProgramFault::Unshown,
         ProgramFault::OutOfMemory,
         ProgramFault::Words(WordsFault::Answered(help)),
         ProgramFault::Words(WordsFault::Wrong(wrong)),
@@ -89,7 +80,7 @@ fn fault_texts_of_programs(rt: HostRuntime) {
         read failed\nwrite failed\nline 12: line too long\n\
         more different numbers than there is room for\na number comes too often\n\
         stopped behind line 12: more may not fit within --memory\n\
-        a value isn't shown\nout of memory\n\
+        out of memory\n\
         a help\n\n--top 0: not from 1 to 9; --help tells more\n";
     assert_said(&rt, rt.alloc(), &faults, text);
 }
