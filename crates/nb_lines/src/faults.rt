@@ -17,18 +17,6 @@ pub enum Cause {
     TooLarge,
     #[error("line too long")]
     TooLong,
-    #[error("neither get nor put")]
-    NoRequest,
-    #[error("get without a key")]
-    GetAlone,
-    #[error("put without a key")]
-    PutAlone,
-    #[error("neither on, off nor count")]
-    NoMove,
-    #[error("on without a key")]
-    OnAlone,
-    #[error("off without a key")]
-    OffAlone,
 }
 
 impl From<DigitsFault> for Cause {
@@ -146,18 +134,11 @@ pub enum ProgramFault {
     Full,
     #[error("more different lines than there is room for")]
     FullOfLines,
-    #[error("more different keys than there is room for")]
-    FullOfKeys,
-    #[error("more keys online than there is room for")]
-    Crowded,
     #[error("a number comes too often")]
     TooOften,
     /// What comes next may not fit within `--memory`. How many lines were done before.
     #[error("stopped behind line {0}: more may not fit within --memory")]
     MemoryLimit(u64),
-    /// A stored value wasn't shown. No test has seen this.
-    #[error("a value isn't shown")]
-    Unshown,
     #[error("out of memory")]
     OutOfMemory,
 }
@@ -171,12 +152,7 @@ impl ProgramFault {
             ProgramFault::Line(..) => 2,
             ProgramFault::Usage => 3,
             ProgramFault::OutOfMemory => 4,
-            ProgramFault::Full
-            | ProgramFault::FullOfLines
-            | ProgramFault::FullOfKeys
-            | ProgramFault::Crowded
-            | ProgramFault::TooOften => 5,
-            ProgramFault::Unshown => 6,
+            ProgramFault::Full | ProgramFault::FullOfLines | ProgramFault::TooOften => 5,
             ProgramFault::MemoryLimit(_) => 7,
         }
     }

@@ -1,3 +1,0 @@
--- Lemmas.
-pub mod CrewLemmas
-pub mod WorkLemmas
