@@ -9,18 +9,54 @@ ghost use Rattle.nb_texts.specs.Memory.{KeepsTo};
 ghost use Rattle.nb_texts.specs.Sources.{IsReadFault};
 ghost use Rattle.nb_dedup.specs.Limits.{HasPrintedFirst, LinesMayNotFit};
 
-use nb_lines::{Done, ProgramFault};
-use nb_texts::{Catalog, LinePlan, LineSource, Load, Taken};
+use nb_lines::ProgramFault;
+use nb_texts::{Catalog, LinePlan, Load, Taken, TakesLines, take_lines};
 use std::alloc::Global;
 use std::io::{Read, Write};
 use std::sync::Wait;
 use std::thread::Threads;
 
-/// The lines of an input that were printed.
+/// The lines of an input that were printed, and where.
 #[derive(Drop)]
-pub(crate) struct Printed {
+pub(crate) struct Printed<W: Write + Drop> {
+    pub(crate) plan: LinePlan,
     pub(crate) catalog: Catalog,
-    pub(crate) taken: Taken,
+    pub(crate) writer: W,
+}
+
+impl<W: Write + Drop> TakesLines for Printed<W> {
+    ghost use Rattle.nb_texts.specs.Taking.{IsTooMuch};
+    ghost use Rattle.nb_dedup.specs.Limits.{HasPrintedLines, MayNotFit};
+
+    ghost has_taken = { λ _ first now lines. (now.plan ≡ first.plan)
+        × HasPrintedLines first.plan.limit (W.contents first.writer) (W.contents now.writer) lines
+        now.catalog };
+
+    ghost leaves = { λ first now block. MayNotFit first.plan.limit now.catalog block };
+
+    ghost refuses = { λ _ told lines. IsTooMuch told lines };
+
+    fn take<R: Threads + Sync + Wait>(
+        self,
+        rt: &R,
+        alloc: Global,
+        block: &[u8],
+        lines: usize,
+    ) -> Result<(Self, bool), ProgramFault> {
+        let bytes = block.len();
+        let load = Load { lines, bytes };
+        let mut printed = self;
+        let limit = printed.plan.limit;
+        if !printed.catalog.make_room_within(alloc, limit, load)? {
+            return Ok((printed, false));
+        }
+        let known = printed.catalog.len();
+        printed
+            .catalog
+            .enter(rt, alloc, block, printed.plan.workers)?;
+        write_from(alloc, &printed.catalog, known, &mut printed.writer)?;
+        Ok((printed, true))
+    }
 }
 
 /// Writes each line of an input where it comes first, and no line twice. Under a limit it ends before a
@@ -31,24 +67,24 @@ pub(crate) fn print_once<R, I, W>(
     alloc: Global,
     plan: LinePlan,
     reader: &mut I,
-    writer: &mut W,
-) -> Result<Printed, ProgramFault>
+    writer: W,
+) -> Result<(Printed<W>, Taken), ProgramFault>
 where
     R: Threads + Sync + Wait + Eprint,
     I: Read,
-    W: Write,
-    ensures whole { IfOk result (λ printed. IsTrue printed.taken.is_whole
+    W: Write + Drop,
+    ensures whole { IfOk result (λ printed. IsTrue printed.1.is_whole
         → IfSome (I.remaining reader.old) (λ input.
-        Appends (W.contents writer.old) (W.contents writer.new)
+        Appends (W.contents writer) (W.contents printed.0.writer)
         (text_of_lines (distinct (lines_in input))))) }
     ensures first { IfOk result (λ printed. IfSome (I.remaining reader.old) (λ input.
-        HasPrintedFirst input printed.taken.lines (W.contents writer.old) (W.contents writer.new))) }
-    ensures unlimited { plan.limit ≡ None → IfOk result (λ printed. IsTrue printed.taken.is_whole) }
+        HasPrintedFirst input printed.1.lines (W.contents writer) (W.contents printed.0.writer))) }
+    ensures unlimited { plan.limit ≡ None → IfOk result (λ printed. IsTrue printed.1.is_whole) }
     ensures kept { IfOk result (λ printed.
-        KeepsTo plan.limit printed.taken.lines printed.catalog) }
-    ensures full { IfOk result (λ printed. printed.taken.is_whole ≡ false
+        KeepsTo plan.limit printed.1.lines printed.0.catalog) }
+    ensures full { IfOk result (λ printed. printed.1.is_whole ≡ false
         → IfSome plan.limit (λ limit. IfSome (I.remaining reader.old) (λ input.
-        LinesMayNotFit limit input printed.taken.lines printed.catalog))) }
+        LinesMayNotFit limit input printed.1.lines printed.0.catalog))) }
     ensures errors { IfErr result (λ told. IsReadFault told ⊎ IsNoRoom told
         ⊎ (told ≡ fault.TooOften) ⊎ (told ≡ fault.Write)) }
     ensures too_many { result ≡ Err fault.FullOfLines → IfSome (I.remaining reader.old) (λ input.
@@ -56,29 +92,13 @@ where
     ensures too_often { result ≡ Err fault.TooOften → IfSome (I.remaining reader.old) (λ input.
         2 ^ 64 ≤ length (lines_in input)) }
 {
-    let mut catalog = Catalog::open(alloc, plan.hashing, plan.first_room(), plan.limit)?;
-    let mut source = LineSource::new(alloc, plan.ahead())?;
-    let mut taken = Taken::NOTHING;
-    let mut done = Done::NOTHING;
-    for _ in 0..u64::MAX {
-        if !source.refill(reader)? {
-            taken.is_whole = true;
-            return Ok(Printed { catalog, taken });
-        }
-        let lines = source.lines();
-        let bytes = source.block().len();
-        let load = Load { lines, bytes };
-        if !catalog.make_room_within(alloc, plan.limit, load)? {
-            return Ok(Printed { catalog, taken });
-        }
-        let known = catalog.len();
-        catalog.enter(rt, alloc, source.block(), plan.workers)?;
-        write_from(alloc, &catalog, known, writer)?;
-        taken = taken.with(lines)?;
-        done = source.done_with(done, lines);
-        plan.progress.tell_done(rt, done);
-    }
-    Err(ProgramFault::Read)
+    let catalog = Catalog::open(alloc, plan.hashing, plan.first_room(), plan.limit)?;
+    let printed = Printed {
+        plan,
+        catalog,
+        writer,
+    };
+    take_lines(rt, alloc, plan.ahead(), plan.progress, reader, printed)
 }
 
 /// Writes the lines of a catalog from one on, each with a newline, at once.

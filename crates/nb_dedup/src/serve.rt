@@ -37,34 +37,17 @@ where
     I: Read + Drop,
 {
     let plan = LinePlan {
-        hashing: Hashing::new(seed_of(rt, options)?, options.bits),
+        hashing: Hashing::seeded(rt, options.seed, options.bits)?,
         workers: options.workers,
         room: options.room,
         limit: options.limit,
         progress,
     };
     let mut reader = reader;
-    let mut writer = io::writer(rt);
-    let printed = print_once(rt, rt.alloc(), plan, &mut reader, &mut writer);
+    let printed = print_once(rt, rt.alloc(), plan, &mut reader, io::writer(rt));
     progress.end(rt);
-    printed?.taken.ended()
-}
-
-/// The key of the hash function: the one that is given, or else one from the machine's randomness.
-fn seed_of<R: RandomSource>(rt: &R, options: LineOptions) -> Result<u64, ProgramFault> {
-    match options.seed {
-        Some(seed) => Ok(seed),
-        None => random(rt),
-    }
-}
-
-/// A number from the machine's randomness.
-fn random<R: RandomSource>(rt: &R) -> Result<u64, ProgramFault> {
-    let mut bytes = [0; 8];
-    match rt.fill_bytes(&mut bytes) {
-        Ok(()) => Ok(u64::from_le_bytes(bytes)),
-        Err(_) => Err(ProgramFault::Read),
-    }
+    let (_, taken) = printed?;
+    taken.ended()
 }
 
 /// Prints each number once.

@@ -1,20 +1,26 @@
 -- The lines of an input are counted block after block, and the rarest are forgotten.
-use Rattle.std.proofs.Common.{◌≡◌, ◌∙◌, ◌+◌, ◌*◌, ◌<◌, ◌≤◌, ℕ, Bool, true, false, cond, List, [], ◌++◌, None, Option, Some, IfSome, ap, append-nil, arith, drop, length, length-append, refl, subst, sym, take}
+use Rattle.std.proofs.Common.{◌≡◌, ◌∙◌, ◌+◌, ◌*◌, ◌^◌, ◌<◌, ◌≤◌, ℕ, Bool, true, false, cond, List, [], ◌++◌, None, Option, Some, IfSome, ap, append-nil, arith, length, length-append, map, refl, subst, sym}
 use Rattle.std.specs.Prelude.{MatchOption, max, min, nat_le}
 use Rattle.std.proofs.lemmas.Bool.{le-leb}
-use Rattle.nb_texts.proofs.Theorems.{IsReading, on-known, reading-begun, reading-distinct, reading-ended, reading-first, reading-many, reading-more, reading-next, lines-none, within-bounds, within-distinct, within-none}
+use Rattle.nb_texts.proofs.Theorems.{kept-more, kept-none, left-told, lines-none, no-more-room, past-block, past-more, with-append, with-few, within-distinct, within-none}
 use Rattle.nb_texts.specs.Catalogs.{IsAtRest}
-use Rattle.nb_texts.specs.Forgetting.{AreBounds, AreLines, FitsAlone, IsTallyWithin}
+use Rattle.nb_texts.specs.Forgetting.{AreLines, FitsAlone, IsTallyWithin}
 use Rattle.nb_texts.specs.Lines.{distinct, lines_in, with_new_lines}
-use Rattle.nb_texts.specs.Memory.{TellsWhetherFits, bytes_of_map, bytes_of_texts, bytes_to_make, lines_with, load_of, room_at_first, shape_with_room, widened}
-use Rattle.nb_texts.specs.Sources.{HasCut, IsBlock}
+use Rattle.nb_texts.specs.Memory.{TellsWhetherFits, ahead_under, bytes_of_map, bytes_of_texts, bytes_to_make, lines_with, load_of, room_at_first, shape_with_room, widened}
+use Rattle.nb_texts.specs.Sources.{IsBlock}
+use Rattle.nb_texts.specs.Taking.{HasLeft}
+use Rattle.nb_texts.specs.Tallies.{IsTally, times}
 use Rattle.nb_texts.specs.declared.catalog.Catalog.{Catalog}
 use Rattle.nb_texts.specs.declared.memory.Load.{Load}
 use Rattle.nb_texts.specs.declared.memory.MemoryLimit.{MemoryLimit}
-use Rattle.nb_tally.proofs.CountedLemmas.{counted-append, counted-many, counted-none}
+use Rattle.nb_tally.proofs.CountedLemmas.{counted-all, counted-append, counted-many, counted-none}
+use Rattle.nb_tally.specs.Counted.{HasCounted, IsLeftOut}
 use Rattle.nb_tally.specs.Fields.{counted_of}
-use Rattle.nb_tally.specs.Forgotten.{Again, Begun, CanForget, Entered, FitsNever, HasTalliedMore, HasForgotten, HasCutFor, HasTallied, IsAlike, IsNarrow, KeepsTold, Never, Tells, TellsFirst, ahead_finer}
+use Rattle.nb_tally.specs.Forgotten.{Again, Begun, CanForget, Entered, FitsNever, HasCutFor, HasForgotten, HasRoomForLines, HasTallied, HasTalliedMore, IsAlike, IsNarrow, KeepsTold, Never, Tells, ahead_finer}
+use Rattle.nb_tally.specs.Limits.{MayNotFit}
 use Rattle.nb_tally.specs.declared.fields.Column.{Column}
+use Rattle.nb_core.specs.declared.shapes.TheConstants.{MOST_KEYS}
+use Rattle.nb_tally.specs.declared.lines_forgotten.Missed.{Missed}
 use Rattle.nb_tally.specs.declared.lines_forgotten.RoughTally.{RoughTally}
 
 -- ---- a tally with the same lines and counts
@@ -35,16 +41,6 @@ same-ready before after ready rest texts counts = record {
   tally = (ready.tally.0, rw (texts, counts) ready.tally.1);
 }
 
--- ---- block after block
-
--- These lines were counted, which are so many, and behind them comes what is left of the input.
-pub record IsOnItsWay (column : Option Column) (known now : Option (List ℕ)) (taken : ℕ)
-    (rough : RoughTally) (rest : List ℕ) : Type 0 where
-  pub lines : List (List ℕ)
-  pub many : taken ≡ length lines
-  pub tells : Tells rough (counted_of column lines)
-  pub reading : IsReading known now lines rest
-
 -- there are no lines
 pub ready-none :
     (rough : RoughTally) → IsAtRest rough.tally.catalog → rough.tally.catalog.texts ≡ []
@@ -56,120 +52,6 @@ ready-none rough rest none zero =
       lines = subst AreLines (sym none) lines-none;
       tally = (within.counted, within.tally);
     }
-
-pub way-begun :
-    (column : Option Column) (known : Option (List ℕ)) (rough : RoughTally) (rest : List ℕ)
-    → rough.tally.catalog.texts ≡ [] → rough.tally.counts.items ≡ [] → rough.missed.times ≡ 0 → rest ≡ []
-    → IsOnItsWay column known known 0 rough rest
-way-begun column known rough rest none zero nothing empty = record {
-  lines = [];
-  many = refl;
-  tells =
-      subst (Tells rough) (sym (counted-none column))
-      (subst (λ missed. IsTallyWithin missed [] rough.tally.catalog.texts rough.tally.counts.items)
-      (sym nothing) (within-none rough.tally.catalog.texts rough.tally.counts.items none zero));
-  reading = reading-begun known rest empty;
-}
-
--- what is told is kept
-pub way-kept :
-    (column : Option Column) (known now : Option (List ℕ)) (taken : ℕ) (rough rough' : RoughTally)
-    (rest : List ℕ) → KeepsTold rough rough' → IsOnItsWay column known now taken rough rest
-    → IsOnItsWay column known now taken rough' rest
-way-kept column known now taken rough rough' rest keeps way = record {
-  lines = way.lines;
-  many = way.many;
-  tells = keeps (counted_of column way.lines) way.tells;
-  reading = way.reading;
-}
-
--- a block was entered
-pub way-more :
-    (column : Option Column) (known now next : Option (List ℕ)) (taken taken' : ℕ)
-    (rough rough' : RoughTally) (rest rest' block counted : List ℕ) (some : Bool)
-    → IsOnItsWay column known now taken rough rest → HasCut some now next rest block rest'
-    → lines_in counted ≡ counted_of column (lines_in block)
-    → taken' ≡ taken + length (lines_in block)
-    → ((lines : List (List ℕ)) → Tells rough lines → Tells rough' (lines ++ lines_in counted))
-    → IsOnItsWay column known next taken' rough' rest'
-way-more column known now next taken taken' rough rough' rest rest' block counted some way cut are more told =
-    record {
-      lines = way.lines ++ lines_in block;
-      many = omega (arith, more, way.many, length-append way.lines (lines_in block));
-      tells =
-          subst (Tells rough') (ap (λ more. counted_of column way.lines ++ more) are
-          ∙ sym (counted-append column way.lines (lines_in block)))
-          (told (counted_of column way.lines) way.tells);
-      reading = reading-more known now next way.lines rest rest' block some way.reading cut;
-    }
-
--- nothing is left
-pub way-ended :
-    (column : Option Column) (known now next : Option (List ℕ)) (taken : ℕ) (rough : RoughTally)
-    (rest rest' block : List ℕ) (some : Bool) → IsOnItsWay column known now taken rough rest
-    → HasCut some now next rest block rest' → some ≡ false
-    → IfSome known (λ input. Tells rough (counted_of column (lines_in input)))
-way-ended column known now next taken rough rest rest' block some way cut ended =
-    on-known known (λ input. way.lines ≡ lines_in input)
-    (λ input. Tells rough (counted_of column (lines_in input)))
-    (λ input all. subst (λ lines. Tells rough (counted_of column lines)) all way.tells)
-    (reading-ended known now next way.lines rest rest' block some way.reading cut ended)
-
-pub bounds-told :
-    (known : Option (List ℕ)) (column : Option Column) (rough : RoughTally)
-    → IfSome known (λ input. Tells rough (counted_of column (lines_in input)))
-    → IfSome known (λ input. AreBounds rough.missed.times (counted_of column (lines_in input))
-    rough.tally.catalog.texts rough.tally.counts.items)
-bounds-told known column rough tells =
-    on-known known (λ input. Tells rough (counted_of column (lines_in input)))
-    (λ input. AreBounds rough.missed.times (counted_of column (lines_in input)) rough.tally.catalog.texts
-    rough.tally.counts.items)
-    (λ input is. within-bounds rough.missed.times (counted_of column (lines_in input))
-    rough.tally.catalog.texts rough.tally.counts.items is)
-    tells
-
--- so many of the first lines were counted
-pub way-first :
-    (column : Option Column) (known now : Option (List ℕ)) (taken : ℕ) (rough : RoughTally)
-    (rest : List ℕ) → IsOnItsWay column known now taken rough rest
-    → IfSome known (λ input. TellsFirst column input taken rough)
-way-first column known now taken rough rest way =
-    on-known known
-    (λ input. (taken ≤ length (lines_in input)) × (take taken (lines_in input) ≡ way.lines))
-    (λ input. TellsFirst column input taken rough)
-    (λ input is. record {
-      within = is.0;
-      tells = subst (λ lines. Tells rough (counted_of column lines)) (sym is.1) way.tells;
-    })
-    (reading-first known now way.lines rest taken way.many way.reading)
-
--- a block wouldn't fit alone
-pub way-never :
-    (column : Option Column) (limit : Option MemoryLimit) (known now next : Option (List ℕ))
-    (taken : ℕ) (rough : RoughTally) (rest rest' block counted : List ℕ) (some : Bool)
-    (load : Load) (catalog : Catalog) → IsOnItsWay column known now taken rough rest
-    → HasCut some now next rest block rest' → IsBlock (ahead_finer limit) block
-    → lines_in counted ≡ counted_of column (lines_in block) → load.lines ≡ length (lines_in counted)
-    → load.bytes ≡ length counted → IfSome limit (λ limit. FitsAlone limit catalog load → ⊥)
-    → IfSome limit (λ limit. IfSome known (λ input. FitsNever column limit input taken catalog))
-way-never column None known now next taken rough rest rest' block counted some load catalog way cut one
-    are many bytes never =
-    tt
-way-never column (Some limit) known now next taken rough rest rest' block counted some load catalog way
-    cut one are many bytes never =
-    on-known known
-    (λ input. (behind : List ℕ) × (drop taken (lines_in input) ≡ lines_in block ++ lines_in behind))
-    (λ input. FitsNever column limit input taken catalog)
-    (λ input next. record {
-      block = block;
-      counted = counted;
-      comes = record { is_block = one; rest = next.0; next = next.1; are = are };
-      over = λ fits. never (record {
-        room = omega (arith, many, fits.room);
-        bytes = rw (many, bytes) fits.bytes;
-      });
-    })
-    (reading-next known now next way.lines rest rest' block some taken way.many way.reading cut)
 
 -- ---- room is made
 
@@ -234,14 +116,7 @@ made-for limit most load counted before after many bytes made =
         → HasCutFor limit most (record { lines = n; bytes = m }) before after
     of n m many bytes = rw (sym many, sym bytes) made
 
--- ---- how a tally came about
-
-on-both :
-    (known : Option (List ℕ)) (P Q R : List ℕ → Type 0)
-    → ((input : List ℕ) → P input → Q input → R input) → IfSome known P → IfSome known Q
-    → IfSome known R
-on-both None P Q R f p q = tt
-on-both (Some input) P Q R f p q = f input p q
+-- ---- block after block
 
 counted-alike :
     (lines : List (List ℕ)) (before then after : RoughTally) → HasTalliedMore lines before then
@@ -251,160 +126,251 @@ counted-alike lines before then after counted same = record {
   missed = same.missed ∙ counted.missed;
 }
 
-tallied-same :
-    {limit : Option MemoryLimit} {column : Option Column} {input : List ℕ} {taken most : ℕ}
-    {rough rough' : RoughTally} → IsAlike rough rough' → HasTallied limit column input taken most rough
-    → HasTallied limit column input taken most rough'
-tallied-same same (Begun none zero nothing) =
+tallied-alike :
+    {ahead : ℕ} {limit : Option MemoryLimit} {column : Option Column} {lines : List (List ℕ)} {most : ℕ}
+    {rough rough' : RoughTally} → IsAlike rough rough' → HasTallied ahead limit column lines most rough
+    → HasTallied ahead limit column lines most rough'
+tallied-alike same (Begun none zero nothing) =
     Begun (same.texts ∙ none) (same.counts ∙ zero) (same.missed ∙ nothing)
-tallied-same same (Entered tallied block counted comes more wide made entered) =
-    Entered tallied block counted comes more wide made (counted-alike (lines_in counted) _ _ _ entered same)
+tallied-alike same (Entered tallied block counted one are more wide made entered) =
+    Entered tallied block counted one are more wide made (counted-alike (lines_in counted) _ _ _ entered same)
 
--- A tally came about so, and its map is as narrow.
-pub record HasComeAbout (limit : Option MemoryLimit) (column : Option Column) (known : Option (List ℕ))
-    (taken : ℕ) (rough : RoughTally) : Type 0 where
-  pub most : ℕ
-  pub narrow : IsNarrow limit most rough.tally.catalog
-  pub tallied : IfSome known (λ input. HasTallied limit column input taken most rough)
-
-pub come-begun :
-    (limit : Option MemoryLimit) (column : Option Column) (known : Option (List ℕ)) (rough : RoughTally)
-    → rough.tally.catalog.texts ≡ [] → rough.tally.counts.items ≡ []
+pub roughly-none :
+    (ahead : ℕ) (column : Option Column) (limit : Option MemoryLimit) (forgets : Bool)
+    (rough : RoughTally) → IsAtRest rough.tally.catalog → rough.tally.catalog.texts ≡ [] → rough.tally.counts.items ≡ []
     → rough.missed ≡ record { times = 0; cuts = 0 } → IsNarrow limit 0 rough.tally.catalog
-    → HasComeAbout limit column known 0 rough
-come-begun limit column None rough none zero nothing narrow =
-    record { most = 0; narrow = narrow; tallied = tt }
-come-begun limit column (Some input) rough none zero nothing narrow =
-    record { most = 0; narrow = narrow; tallied = Begun none zero nothing }
-
-pub come-told :
-    (limit : Option MemoryLimit) (column : Option Column) (known : Option (List ℕ)) (taken : ℕ)
-    (rough rough' : RoughTally) → IsAlike rough rough' → HasComeAbout limit column known taken rough
-    → IfSome known (λ input. (most : ℕ) × HasTallied limit column input taken most rough')
-come-told limit column known taken rough rough' same come =
-    on-known known (λ input. HasTallied limit column input taken come.most rough)
-    (λ input. (most : ℕ) × HasTallied limit column input taken most rough')
-    (λ input tallied. (come.most, tallied-same same tallied)) come.tallied
-
--- a block was entered
-pub come-more :
-    (limit : Option MemoryLimit) (column : Option Column) (known now next : Option (List ℕ))
-    (taken taken' : ℕ) (rough made rough' : RoughTally) (rest rest' block counted : List ℕ) (some : Bool)
-    (load : Load) → IsOnItsWay column known now taken rough rest
-    → HasCut some now next rest block rest' → IsBlock (ahead_finer limit) block
-    → lines_in counted ≡ counted_of column (lines_in block) → load.lines ≡ length (lines_in block)
-    → load.bytes ≡ length counted → taken' ≡ taken + length (lines_in block)
-    → rough'.tally.catalog.handle.map.chain.shape ≡ shape_with_room rough'.tally.catalog.room
-    → rough'.tally.catalog.room
-    ≤ max rough.tally.catalog.room (2 * (length rough.tally.catalog.texts + load.lines))
-    → ((most : ℕ) → IsNarrow limit most rough.tally.catalog → HasCutFor limit most load rough made)
-    → HasTalliedMore (lines_in counted) made rough' → HasComeAbout limit column known taken rough
-    → HasComeAbout limit column known taken' rough'
-come-more limit column known now next taken taken' rough made rough' rest rest' block counted some load way
-    cut one are many bytes more shape wide room entered come =
-    let among = 2 * (length rough.tally.catalog.texts + length (lines_in block)) in
-    let same : load.lines ≡ length (lines_in counted)
-    = omega (arith, many, ap length are, counted-many column (lines_in block)) in
+    → HasCounted ahead column limit forgets rough []
+roughly-none ahead column limit forgets rough rest none zero nothing narrow =
+    let missed = ap (λ (missed : Missed). missed.times) nothing in
     record {
-      most = max come.most among;
-      narrow =
-          narrow-more limit come.most among rough.tally.catalog rough'.tally.catalog shape
-          (omega (arith, wide, many)) come.narrow;
-      tallied =
-          on-both known
-          (λ input. (behind : List ℕ)
-          × (drop taken (lines_in input) ≡ lines_in block ++ lines_in behind))
-          (λ input. HasTallied limit column input taken come.most rough)
-          (λ input. HasTallied limit column input taken' (max come.most among) rough')
-          (λ input next tallied.
-          Entered tallied block counted
-          (record { is_block = one; rest = next.0; next = next.1; are = are }) more refl
-          (made-for limit come.most load counted rough made same bytes (room come.most come.narrow)) entered)
-          (reading-next known now next way.lines rest rest' block some taken way.many way.reading cut)
-          come.tallied;
+      ready = ready-none rough rest none zero;
+      tells =
+          subst (Tells rough) (sym (counted-none column))
+          (subst (λ missed. IsTallyWithin missed [] rough.tally.catalog.texts rough.tally.counts.items)
+          (sym missed) (within-none rough.tally.catalog.texts rough.tally.counts.items none zero));
+      exact = λ is.
+          subst (λ lines. IsTally lines rough.tally.catalog.texts rough.tally.counts.items)
+          (sym (counted-none column))
+          (record { are = none; told = zero ∙ ap (map (λ line. times line [])) (sym none) });
+      kept = kept-none limit rough.tally.catalog;
+      room = omega (arith, ap length none);
+      most = 0;
+      narrow = narrow;
+      tallied = Begun none zero nothing;
+      unlimited = λ is. missed;
     }
 
--- where a count can't tell how often lines came, so many lines came,
-pub way-often :
-    (column : Option Column) (known now : Option (List ℕ)) (taken : ℕ) (rough : RoughTally)
-    (rest : List ℕ) (most : ℕ) → IsOnItsWay column known now taken rough rest
-    → ((lines : List (List ℕ)) → Tells rough lines → most ≤ length lines)
-    → IfSome known (λ input. most ≤ length (lines_in input))
-way-often column known now taken rough rest most way often =
-    reading-many known now way.lines rest most
-    (omega (arith, often (counted_of column way.lines) way.tells, counted-many column way.lines))
-    way.reading
+-- a block was entered, for which room was made
+pub roughly-more :
+    (ahead : ℕ) (column : Option Column) (limit : Option MemoryLimit) (forgets : Bool)
+    (lines : List (List ℕ))
+    (rough made rough' : RoughTally) (block counted : List ℕ) (load : Load)
+    → HasCounted ahead column limit forgets rough lines → IsBlock ahead block
+    → lines_in counted ≡ counted_of column (lines_in block) → load.lines ≡ length (lines_in block)
+    → load.bytes ≡ length counted → KeepsTold rough made
+    → TellsWhetherFits limit made.tally.catalog load true
+    → ((most : ℕ) → IsNarrow limit most rough.tally.catalog → HasCutFor limit most load rough made)
+    → made.tally.catalog.room
+    ≤ max rough.tally.catalog.room (2 * (length rough.tally.catalog.texts + load.lines))
+    → HasRoomForLines (length made.tally.catalog.texts + load.lines) made.tally.catalog
+    → (limit ≡ None → made.missed.times ≡ rough.missed.times)
+    → (forgets ≡ false → IsAlike rough made) → CanForget rough'
+    → ((all : List (List ℕ)) → Tells made all → Tells rough' (all ++ lines_in counted))
+    → HasTalliedMore (lines_in counted) made rough'
+    → rough'.tally.catalog.texts ≡ with_new_lines made.tally.catalog.texts (lines_in counted)
+    → rough'.tally.catalog.handle.map ≡ made.tally.catalog.handle.map
+    → rough'.tally.catalog.room ≡ made.tally.catalog.room → rough'.missed ≡ made.missed
+    → HasCounted ahead column limit forgets rough' (lines ++ lines_in block)
+roughly-more ahead column limit forgets lines rough made rough' block counted load has one are many bytes keeps fits cut
+    wide room same alike ready told more texts map still missed =
+    let among = 2 * (length rough.tally.catalog.texts + length (lines_in block)) in
+    let few : load.lines ≡ length (lines_in counted)
+    = omega (arith, many, ap length are, counted-many column (lines_in block)) in
+    record {
+      ready = ready;
+      tells =
+          subst (Tells rough')
+          (ap (λ more. counted_of column lines ++ more) are
+          ∙ sym (counted-append column lines (lines_in block)))
+          (told (counted_of column lines) (keeps (counted_of column lines) has.tells));
+      exact = λ is.
+          subst (λ all. IsTally all rough'.tally.catalog.texts rough'.tally.counts.items)
+          (ap (λ more. counted_of column lines ++ more) are
+          ∙ sym (counted-append column lines (lines_in block)))
+          (more.tally (counted_of column lines)
+          (rw ((alike is).texts, (alike is).counts) (has.exact is)));
+      kept =
+          kept-more limit (length (lines ++ lines_in block)) made.tally.catalog rough'.tally.catalog load
+          counted fits (omega (arith, few)) bytes texts map;
+      room =
+          omega (
+            arith,
+            room,
+            few,
+            still,
+            ap length texts,
+            with-few made.tally.catalog.texts (lines_in counted),
+          );
+      most = max has.most among;
+      narrow =
+          narrow-more limit has.most among rough.tally.catalog rough'.tally.catalog ready.rest.made
+          (omega (arith, wide, still, many)) has.narrow;
+      tallied =
+          Entered has.tallied block counted one are refl refl
+          (made-for limit has.most load counted rough made few bytes (cut has.most has.narrow)) more;
+      unlimited = λ is.
+          ap (λ (missed : Missed). missed.times) missed ∙ same is ∙ has.unlimited is;
+    }
 
--- or with a block
-pub way-often-with :
-    (column : Option Column) (known now next : Option (List ℕ)) (taken : ℕ) (rough : RoughTally)
-    (rest rest' block : List ℕ) (some : Bool) (most : ℕ)
-    → IsOnItsWay column known now taken rough rest → HasCut some now next rest block rest'
-    → ((lines : List (List ℕ)) → Tells rough lines
-    → most ≤ length (lines ++ counted_of column (lines_in block)))
-    → IfSome known (λ input. most ≤ length (lines_in input))
-way-often-with column known now next taken rough rest rest' block some most way cut often =
-    reading-many known next (way.lines ++ lines_in block) rest' most
-    (omega (
-      arith,
-      often (counted_of column way.lines) way.tells,
-      length-append (counted_of column way.lines) (counted_of column (lines_in block)),
-      length-append way.lines (lines_in block),
-      counted-many column way.lines,
-      counted-many column (lines_in block),
-    ))
-    (reading-more known now next way.lines rest rest' block some way.reading cut)
+-- a block was left
+pub roughly-same :
+    (ahead : ℕ) (column : Option Column) (limit : Option MemoryLimit) (forgets : Bool)
+    (lines : List (List ℕ))
+    (rough made : RoughTally) → HasCounted ahead column limit forgets rough lines → CanForget made
+    → IsAlike rough made → made.tally.catalog ≡ rough.tally.catalog
+    → HasCounted ahead column limit forgets made lines
+roughly-same ahead column limit forgets lines rough made has ready alike same = record {
+  ready = ready;
+  tells =
+      same-told rough made alike.texts alike.counts (ap (λ (missed : Missed). missed.times) alike.missed)
+      (counted_of column lines) has.tells;
+  exact = λ is. rw (alike.texts, alike.counts) (has.exact is);
+  kept = rw same has.kept;
+  room = rw same has.room;
+  most = has.most;
+  narrow = rw same has.narrow;
+  tallied = tallied-alike alike has.tallied;
+  unlimited = λ is. ap (λ (missed : Missed). missed.times) alike.missed ∙ has.unlimited is;
+}
 
--- so many lines were taken, and a block
-pub way-many-with :
-    (column : Option Column) (known now next : Option (List ℕ)) (taken : ℕ) (rough : RoughTally)
-    (rest rest' block : List ℕ) (some : Bool) (most : ℕ)
-    → IsOnItsWay column known now taken rough rest → HasCut some now next rest block rest'
-    → most ≤ taken + length (lines_in block)
-    → IfSome known (λ input. most ≤ length (lines_in input))
-way-many-with column known now next taken rough rest rest' block some most way cut many =
-    reading-many known next (way.lines ++ lines_in block) rest' most
-    (omega (arith, many, way.many, length-append way.lines (lines_in block)))
-    (reading-more known now next way.lines rest rest' block some way.reading cut)
+-- ---- a refusal
 
--- there are more lines than any map has room for
-pub way-past :
-    (column : Option Column) (known now : Option (List ℕ)) (taken : ℕ) (rough : RoughTally)
-    (rest : List ℕ) (most : ℕ) → IsOnItsWay column known now taken rough rest
+-- there are more lines than any map has room for,
+pub roughly-past :
+    (ahead : ℕ) (column : Option Column) (limit : Option MemoryLimit) (forgets : Bool)
+    (lines more : List (List ℕ))
+    (rough : RoughTally) (most : ℕ) → HasCounted ahead column limit forgets rough lines
     → most < length rough.tally.catalog.texts
-    → IfSome known (λ input. most < length (distinct (counted_of column (lines_in input))))
-way-past column known now taken rough rest most way past =
-    let lines = counted_of column way.lines in
-    let texts = rough.tally.catalog.texts in
-    reading-distinct (counted_of column) (counted-append column) known now way.lines rest most
+    → most < length (distinct (counted_of column (lines ++ more)))
+roughly-past ahead column limit forgets lines more rough most has past =
+    let counted = counted_of column lines in
+    rw (counted-append column lines more)
+    (past-more counted (counted_of column more) most
     (omega (
       arith,
       past,
-      within-distinct rough.missed.times lines [] texts rough.tally.counts.items way.tells,
-      ap (λ lines. length (distinct lines)) (append-nil lines),
-    ))
-    way.reading
+      within-distinct rough.missed.times counted [] rough.tally.catalog.texts rough.tally.counts.items
+          has.tells,
+      ap (λ lines. length (distinct lines)) (append-nil counted),
+    )))
 
 -- or there are with a block
-pub way-past-with :
-    (column : Option Column) (known now next : Option (List ℕ)) (taken : ℕ) (rough : RoughTally)
-    (rest rest' block : List ℕ) (some : Bool) (most : ℕ)
-    → IsOnItsWay column known now taken rough rest → HasCut some now next rest block rest'
-    → most < length (with_new_lines rough.tally.catalog.texts (counted_of column (lines_in block)))
-    → IfSome known (λ input. most < length (distinct (counted_of column (lines_in input))))
-way-past-with column known now next taken rough rest rest' block some most way cut past =
-    let lines = counted_of column way.lines in
-    let more = counted_of column (lines_in block) in
-    reading-distinct (counted_of column) (counted-append column) known next
-    (way.lines ++ lines_in block) rest' most
+pub roughly-full :
+    (ahead : ℕ) (column : Option Column) (limit : Option MemoryLimit) (forgets : Bool)
+    (lines more : List (List ℕ))
+    (rough made : RoughTally) (block counted : List ℕ) (load : Load)
+    → HasCounted ahead column limit forgets rough lines → KeepsTold rough made
+    → lines_in counted ≡ counted_of column (lines_in block) → load.lines ≡ length (lines_in block)
+    → HasRoomForLines (length made.tally.catalog.texts + load.lines) made.tally.catalog
+    → made.tally.catalog.room < length (with_new_lines made.tally.catalog.texts (lines_in counted))
+    → MOST_KEYS < length (distinct (counted_of column (lines ++ (lines_in block ++ more))))
+roughly-full ahead column limit forgets lines more rough made block counted load has keeps are many room past =
+    let known = counted_of column lines in
+    let texts = made.tally.catalog.texts in
+    rw (counted-all column lines (lines_in block) more (lines_in counted) are)
+    (past-block known (lines_in counted) (counted_of column more) MOST_KEYS
     (omega (
       arith,
-      past,
-      within-distinct rough.missed.times lines more rough.tally.catalog.texts rough.tally.counts.items
-          way.tells,
-      ap (λ lines. length (distinct lines)) (counted-append column way.lines (lines_in block)),
-    ))
-    (reading-more known now next way.lines rest rest' block some way.reading cut)
+      no-more-room texts (lines_in counted) load.lines made.tally.catalog.room
+          (omega (arith, many, ap length are, counted-many column (lines_in block))) room past,
+      within-distinct made.missed.times known (lines_in counted) texts made.tally.counts.items
+          (keeps known has.tells),
+      ap length (with-append [] known (lines_in counted)),
+    )))
+
+-- a count can't tell how often lines came
+pub roughly-often :
+    (ahead : ℕ) (column : Option Column) (limit : Option MemoryLimit) (forgets : Bool)
+    (lines more : List (List ℕ))
+    (rough made : RoughTally) (counted : List (List ℕ))
+    → HasCounted ahead column limit forgets rough lines → KeepsTold rough made
+    → ((all : List (List ℕ)) → Tells made all → 2 ^ 64 ≤ length (all ++ counted))
+    → 2 ^ 64 ≤ length (counted_of column lines ++ (counted ++ more))
+roughly-often ahead column limit forgets lines more rough made counted has keeps often =
+    let known = counted_of column lines in
+    omega (
+      arith,
+      often known (keeps known has.tells),
+      length-append known counted,
+      length-append known (counted ++ more),
+      length-append counted more,
+    )
+
+-- for what is counted of a block that was left
+module _
+    (limit : Option MemoryLimit) (column : Option Column) (catalog : Catalog) (load : Load)
+    (block counted : List ℕ) (many : load.lines ≡ length (lines_in block))
+    (are : lines_in counted ≡ counted_of column (lines_in block)) (bytes : load.bytes ≡ length counted)
+  where
+    few : load.lines ≡ length (lines_in counted)
+    few = omega (arith, many, ap length are, counted-many column (lines_in block))
+
+    pub over-with :
+        TellsWhetherFits limit catalog load false → TellsWhetherFits limit catalog (load_of counted) false
+    over-with over = of (length (lines_in counted)) (length counted) few bytes
+      where
+        of :
+            (n m : ℕ) → load.lines ≡ n → load.bytes ≡ m
+            → TellsWhetherFits limit catalog (record { lines = n; bytes = m }) false
+        of n m many bytes = rw (sym many, sym bytes) over
+
+    pub alone-with :
+        IfSome limit (λ limit. FitsAlone limit catalog load → ⊥)
+        → IfSome limit (λ limit. FitsAlone limit catalog (load_of counted) → ⊥)
+    alone-with never = of limit never
+      where
+        of :
+            (limit : Option MemoryLimit) → IfSome limit (λ limit. FitsAlone limit catalog load → ⊥)
+            → IfSome limit (λ limit. FitsAlone limit catalog (load_of counted) → ⊥)
+        of None never = tt
+        of (Some limit) never = λ fits.
+            never (record { room = omega (arith, few, fits.room); bytes = rw (few, bytes) fits.bytes })
+
+-- a block that was left comes behind lines, where none are forgotten,
+pub counted-left :
+    (column : Option Column) (limit : Option MemoryLimit) (known : Option (List ℕ)) (taken : ℕ)
+    (catalog : Catalog)
+    → HasLeft (ahead_under limit) known taken (IsLeftOut column limit false catalog)
+    → IfSome limit (λ limit. IfSome known (λ input. MayNotFit column limit input taken catalog))
+counted-left column None known taken catalog left = tt
+counted-left column (Some limit) known taken catalog left =
+    left-told (ahead_under (Some limit)) known taken (IsLeftOut column (Some limit) false catalog)
+    (λ input. MayNotFit column limit input taken catalog) left
+    (λ input block one out next.
+    record {
+      block = block;
+      counted = out.counted;
+      comes = record { is_block = one; rest = next.0; next = next.1; are = out.are };
+      over = out.over;
+    })
+
+-- and where some may be
+pub roughly-left :
+    (column : Option Column) (limit : Option MemoryLimit) (known : Option (List ℕ)) (taken : ℕ)
+    (catalog : Catalog)
+    → HasLeft (ahead_finer limit) known taken (IsLeftOut column limit true catalog)
+    → IfSome limit (λ limit. IfSome known (λ input. FitsNever column limit input taken catalog))
+roughly-left column None known taken catalog left = tt
+roughly-left column (Some limit) known taken catalog left =
+    left-told (ahead_finer (Some limit)) known taken (IsLeftOut column (Some limit) true catalog)
+    (λ input. FitsNever column limit input taken catalog) left
+    (λ input block one out next.
+    record {
+      block = block;
+      counted = out.counted;
+      comes = record { is_block = one; rest = next.0; next = next.1; are = out.are };
+      over = out.never refl;
+    })
 
 -- ---- a block that fits alone fits where there are no lines
 

@@ -5,6 +5,7 @@ use Rattle.nb_texts.specs.Catalogs.{IsAtRest}
 use Rattle.nb_texts.specs.Forgetting.{AreLines, FitsAlone, IsMiddle, IsTallyOfSome, IsTallyWithin, lines_above}
 use Rattle.nb_texts.specs.Lines.{lines_in}
 use Rattle.nb_texts.specs.Memory.{TellsWhetherFits, ahead_under, load_of, room_at_first, shape_with_room}
+use Rattle.nb_texts.specs.Sources.{IsBlock}
 use Rattle.nb_texts.specs.Tallies.{IsTally}
 use Rattle.nb_texts.specs.declared.catalog.Catalog.{Catalog}
 use Rattle.nb_texts.specs.declared.memory.Load.{Load}
@@ -100,19 +101,19 @@ pub data HasCutFor (limit : Option MemoryLimit) (most : ℕ) (block : Load) (bef
       → TellsWhetherFits limit then.tally.catalog block false → HasForgotten then after
       → HasCutFor limit most block before after
 
--- How so many lines of the input were counted, from the first one on: block after block, for each of
--- which room was made before. The map was made for twice as many lines as there were with a block.
-pub data HasTallied (limit : Option MemoryLimit) (column : Option Column) (input : List ℕ) :
-    (lines most : ℕ) → RoughTally → Type 0 where
+-- How these lines were counted, from the first one on: block after block, for each of which room was made
+-- before. The map was made for twice as many lines as there were with a block.
+pub data HasTallied (ahead : ℕ) (limit : Option MemoryLimit) (column : Option Column) :
+    (lines : List (List ℕ)) (most : ℕ) → RoughTally → Type 0 where
   Begun :
       {rough : RoughTally} → rough.tally.catalog.texts ≡ [] → rough.tally.counts.items ≡ []
-      → rough.missed ≡ record { times = 0; cuts = 0 } → HasTallied limit column input 0 0 rough
+      → rough.missed ≡ record { times = 0; cuts = 0 } → HasTallied ahead limit column [] 0 rough
   Entered :
-      {lines lines' most most' : ℕ} {before then after : RoughTally}
-      → HasTallied limit column input lines most before → (block counted : List ℕ)
-      → ComesNext column (ahead_finer limit) input lines block counted
-      → lines' ≡ lines + length (lines_in block)
+      {lines lines' : List (List ℕ)} {most most' : ℕ} {before then after : RoughTally}
+      → HasTallied ahead limit column lines most before → (block counted : List ℕ)
+      → IsBlock ahead block → lines_in counted ≡ counted_of column (lines_in block)
+      → lines' ≡ lines ++ lines_in block
       → most' ≡ max most (2 * (length before.tally.catalog.texts + length (lines_in block)))
       → HasCutFor limit most (load_of counted) before then
       → HasTalliedMore (lines_in counted) then after
-      → HasTallied limit column input lines' most' after
+      → HasTallied ahead limit column lines' most' after

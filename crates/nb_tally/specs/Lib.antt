@@ -1,4 +1,5 @@
 -- The definitions that the contracts cite.
+pub mod Counted
 pub mod Fields
 pub mod Forgotten
 pub mod Limits

@@ -1,22 +1,18 @@
 //! Lines, counted within a limit of memory: where some don't fit, the rarest ones are forgotten.
 ghost use Rattle.std.specs.Bool.{OnFalse, OnTrue};
-ghost use Rattle.std.specs.Prelude.{◌≡◌, ◌+◌, ◌*◌, ◌^◌, ◌<◌, ◌≤◌, ◌++◌, ◌⊎◌, ℕ, IfErr, IfOk, IfSome, IsOkUnless, IsTrue, List, None, OnErr, OnOk, false, length, max, min, true};
+ghost use Rattle.std.specs.Prelude.{◌≡◌, ◌+◌, ◌*◌, ◌^◌, ◌<◌, ◌≤◌, ◌++◌, ◌⊎◌, ℕ, IfErr, IfOk, IfSome, IsOkUnless, List, OnErr, OnOk, false, length, max, min, true};
 ghost use Rattle.nb_core.specs.declared.shapes.TheConstants.{MOST_KEYS};
 ghost use Rattle.nb_lines.specs.declared.faults.ProgramFault.TheVariants as fault;
 ghost use Rattle.nb_texts.specs.Catalogs.{IsNoRoom};
-ghost use Rattle.nb_texts.specs.Forgetting.{AreBounds, FitsAlone};
-ghost use Rattle.nb_texts.specs.Lines.{distinct, lines_in, with_new_lines};
-ghost use Rattle.nb_texts.specs.Memory.{KeepsTo, TellsWhetherFits};
-ghost use Rattle.nb_texts.specs.Sources.{IsReadFault};
-ghost use Rattle.nb_texts.specs.Tallies.{ComesTooOften, IsTally};
-ghost use Rattle.nb_tally.specs.Fields.{counted_of};
-ghost use Rattle.nb_tally.specs.Forgotten.{CanForget, FitsNever, HasTalliedMore, HasForgotten, HasCutFor, HasRoomForLines, HasTallied, IsAlike, IsNarrow, KeepsTold, Tells, TellsFirst, ahead_finer, with_cut};
+ghost use Rattle.nb_texts.specs.Forgetting.{FitsAlone};
+ghost use Rattle.nb_texts.specs.Lines.{lines_in, with_new_lines};
+ghost use Rattle.nb_texts.specs.Memory.{TellsWhetherFits};
+ghost use Rattle.nb_tally.specs.Counted.{ahead_for};
+ghost use Rattle.nb_tally.specs.Forgotten.{CanForget, HasTalliedMore, HasForgotten, HasCutFor, HasRoomForLines, IsAlike, IsNarrow, KeepsTold, Tells, with_cut};
 
-use crate::fields::{Column, counted_in};
-use nb_lines::{Done, ProgramFault};
-use nb_texts::{Catalog, Forgotten, LinePlan, LineSource, LineTally, Load, Taken};
+use nb_lines::ProgramFault;
+use nb_texts::{Forgotten, LinePlan, LineTally, Load};
 use std::alloc::Global;
-use std::io::Read;
 use std::sync::Wait;
 use std::thread::Threads;
 
@@ -33,7 +29,7 @@ pub(crate) struct Missed {
 }
 
 impl Missed {
-    const NOTHING: Missed = Missed { times: 0, cuts: 0 };
+    pub(crate) const NOTHING: Missed = Missed { times: 0, cuts: 0 };
 
     /// Lines that came no more often than this were forgotten.
     fn with(self, cut: u64) -> Result<Missed, ProgramFault>
@@ -60,7 +56,7 @@ pub(crate) struct RoughTally {
 
 impl RoughTally {
     /// Enters the lines of a block.
-    fn enter<R: Threads + Sync + Wait>(
+    pub(crate) fn enter<R: Threads + Sync + Wait>(
         &mut self,
         rt: &R,
         alloc: Global,
@@ -118,17 +114,19 @@ impl RoughTally {
 
 /// A tally with or without room for a block.
 #[derive(Drop)]
-struct Offer {
-    made: RoughTally,
-    fits: bool,
+pub(crate) struct Offer {
+    pub(crate) made: RoughTally,
+    pub(crate) fits: bool,
 }
 
 /// Makes room for a block of new lines, and tells whether it fits within the limit. Where it doesn't,
-/// the rarest lines are forgotten until it does; but none are if it wouldn't even fit alone.
-fn make_room<R: Threads + Sync + Wait>(
+/// the rarest lines are forgotten until it does, if they may be; but none are if it wouldn't even fit
+/// alone.
+pub(crate) fn make_room<R: Threads + Sync + Wait>(
     rt: &R,
     alloc: Global,
     plan: LinePlan,
+    forgets: bool,
     rough: RoughTally,
     block: Load,
 ) -> Result<Offer, ProgramFault>
@@ -140,7 +138,8 @@ fn make_room<R: Threads + Sync + Wait>(
     ensures back { IfOk result (λ offer. OnFalse offer.fits
         (offer.made.tally.catalog ≡ rough.tally.catalog)) }
     ensures alike { IfOk result (λ offer. OnFalse offer.fits (IsAlike rough offer.made)) }
-    ensures never { IfOk result (λ offer. OnFalse offer.fits
+    ensures exact { forgets ≡ false → IfOk result (λ offer. IsAlike rough offer.made) }
+    ensures never { forgets ≡ true → IfOk result (λ offer. OnFalse offer.fits
         (IfSome plan.limit (λ limit. FitsAlone limit rough.tally.catalog block → ⊥))) }
     ensures needed { IfOk result (λ offer. (offer.fits ≡ true) × (offer.made.missed ≡ rough.missed)
         ⊎ TellsWhetherFits plan.limit rough.tally.catalog block false) }
@@ -164,7 +163,7 @@ fn make_room<R: Threads + Sync + Wait>(
     let Some(limit) = plan.limit else {
         unreachable!();
     };
-    if !made.tally.fits_alone(limit, block) {
+    if !forgets || !made.tally.fits_alone(limit, block) {
         return Ok(Offer { made, fits: false });
     }
     let made = forget_for(rt, alloc, plan, made, block)?;
@@ -211,88 +210,12 @@ fn forget_for<R: Threads + Sync + Wait>(
 }
 
 /// How many bytes are asked for at once.
-fn ahead_of(plan: LinePlan) -> usize
-    ensures { result ≡ ahead_finer plan.limit }
+pub(crate) fn ahead_of(plan: LinePlan, forgets: bool) -> usize
+    ensures asked { result ≡ ahead_for forgets plan.limit }
+    ensures some { 1 ≤ result }
 {
     match plan.limit {
-        Some(limit) => plan.ahead().min(limit.bytes / BYTES_OF_BLOCK).max(1),
-        None => plan.ahead(),
+        Some(limit) if forgets => plan.ahead().min(limit.bytes / BYTES_OF_BLOCK).max(1),
+        _ => plan.ahead(),
     }
-}
-
-/// What was counted of an input, but for what was forgotten.
-#[derive(Drop)]
-pub(crate) struct RoughlyCounted {
-    pub(crate) rough: RoughTally,
-    pub(crate) taken: Taken,
-}
-
-/// Each distinct line of an input or, of a column of it, each distinct field, with how often it comes,
-/// but for the rarest ones, which are forgotten where a block of lines might not fit within the limit.
-/// It ends before a block that wouldn't even fit alone.
-pub(crate) fn tally_roughly<R, I>(
-    rt: &R,
-    alloc: Global,
-    plan: LinePlan,
-    column: Option<Column>,
-    reader: &mut I,
-) -> Result<RoughlyCounted, ProgramFault>
-where
-    R: Threads + Sync + Wait + Eprint,
-    I: Read,
-    ensures whole { IfOk result (λ counted. IsTrue counted.taken.is_whole
-        → IfSome (I.remaining reader.old) (λ input.
-        Tells counted.rough (counted_of column (lines_in input)))) }
-    ensures bounds { IfOk result (λ counted. IsTrue counted.taken.is_whole
-        → IfSome (I.remaining reader.old) (λ input. AreBounds counted.rough.missed.times
-        (counted_of column (lines_in input)) counted.rough.tally.catalog.texts
-        counted.rough.tally.counts.items)) }
-    ensures first { IfOk result (λ counted. IfSome (I.remaining reader.old) (λ input.
-        TellsFirst column input counted.taken.lines counted.rough)) }
-    ensures made { IfOk result (λ counted. IfSome (I.remaining reader.old) (λ input.
-        (most : ℕ) × HasTallied plan.limit column input counted.taken.lines most counted.rough)) }
-    ensures unlimited { plan.limit ≡ None → IfOk result (λ counted.
-        IsTrue counted.taken.is_whole × (counted.rough.missed.times ≡ 0)) }
-    ensures ready { IfOk result (λ counted. CanForget counted.rough) }
-    ensures kept { IfOk result (λ counted.
-        KeepsTo plan.limit counted.taken.lines counted.rough.tally.catalog) }
-    ensures never { IfOk result (λ counted. counted.taken.is_whole ≡ false
-        → IfSome plan.limit (λ limit. IfSome (I.remaining reader.old) (λ input.
-        FitsNever column limit input counted.taken.lines counted.rough.tally.catalog))) }
-    ensures errors { IfErr result (λ told.
-        IsReadFault told ⊎ IsNoRoom told ⊎ (told ≡ fault.TooOften)) }
-    ensures too_many { result ≡ Err fault.FullOfLines → IfSome (I.remaining reader.old) (λ input.
-        MOST_KEYS < length (distinct (counted_of column (lines_in input)))) }
-    ensures too_often { result ≡ Err fault.TooOften → IfSome (I.remaining reader.old) (λ input.
-        2 ^ 64 ≤ length (lines_in input)) }
-{
-    let catalog = Catalog::open(alloc, plan.hashing, plan.first_room(), plan.limit)?;
-    let mut rough = RoughTally {
-        tally: LineTally::new(alloc, catalog),
-        missed: Missed::NOTHING,
-    };
-    let mut source = LineSource::new(alloc, ahead_of(plan))?;
-    let mut fields = Vec::new(alloc);
-    let mut taken = Taken::NOTHING;
-    let mut done = Done::NOTHING;
-    for _ in 0..u64::MAX {
-        if !source.refill(reader)? {
-            taken.is_whole = true;
-            return Ok(RoughlyCounted { rough, taken });
-        }
-        let lines = source.lines();
-        let block = counted_in(column, source.block(), &mut fields)?;
-        let bytes = block.len();
-        let load = Load { lines, bytes };
-        let Offer { made, fits } = make_room(rt, alloc, plan, rough, load)?;
-        rough = made;
-        if !fits {
-            return Ok(RoughlyCounted { rough, taken });
-        }
-        rough.enter(rt, alloc, block, plan.workers)?;
-        taken = taken.with(lines)?;
-        done = source.done_with(done, lines);
-        plan.progress.tell_done(rt, done);
-    }
-    Err(ProgramFault::Read)
 }

@@ -1,5 +1,5 @@
 //! The program: its words, what it reads and what it prints.
-ghost use Rattle.std.specs.Prelude.{◌≡◌, ◌<◌, ◌≤◌, ◌^◌, ◌⊎◌, ℕ, Err, IfErr, IfOk, IfSome, IsTrue, None, Ok, Some, false, length};
+ghost use Rattle.std.specs.Prelude.{◌≡◌, ◌<◌, ◌≤◌, ◌^◌, ◌⊎◌, ℕ, Err, IfErr, IfOk, IfSome, IsTrue, None, Ok, Some, false, length, take};
 ghost use Rattle.nb_core.specs.declared.shapes.TheConstants.{MOST_KEYS};
 ghost use Rattle.nb_lines.specs.declared.faults.ProgramFault.TheVariants as fault;
 ghost use Rattle.nb_texts.specs.Catalogs.{IsNoRoom};
@@ -9,17 +9,17 @@ ghost use Rattle.nb_texts.specs.Memory.{KeepsTo};
 ghost use Rattle.nb_texts.specs.Sources.{IsReadFault};
 ghost use Rattle.nb_texts.specs.Tallies.{IsTally};
 ghost use Rattle.nb_tally.specs.Fields.{counted_of};
-ghost use Rattle.nb_tally.specs.Forgotten.{FitsNever, HasTallied, TellsFirst};
+ghost use Rattle.nb_tally.specs.Forgotten.{FitsNever, HasTallied, TellsFirst, ahead_finer};
 ghost use Rattle.nb_tally.specs.Limits.{IsTallyOfFirst, MayNotFit};
 ghost use Rattle.nb_tally.specs.Printed.{HasPrinted};
 
 use crate::counting::tally;
-use crate::lines_counted::{Counted, tally_lines};
-use crate::lines_forgotten::{Missed, RoughlyCounted, tally_roughly};
+use crate::lines_counted::{Counted, count_lines};
+use crate::lines_forgotten::Missed;
 use crate::options::{LINE, LineOptions, Options, Task, task_of};
 use crate::printing::{print_counts, print_rows, sort_rows};
 use nb_lines::{ProgramFault, ProgressMeter};
-use nb_texts::{Hashing, LinePlan, LineTally};
+use nb_texts::{Hashing, LinePlan, LineTally, Taken};
 use std::alloc::Global;
 use std::io;
 use std::io::Read;
@@ -52,7 +52,7 @@ where
     I: Read + Drop,
 {
     let plan = LinePlan {
-        hashing: Hashing::new(seed_of(rt, options)?, options.bits),
+        hashing: Hashing::seeded(rt, options.seed, options.bits)?,
         workers: options.workers,
         room: options.room,
         limit: options.limit,
@@ -61,12 +61,12 @@ where
     let mut reader = reader;
     let writer = io::writer(rt);
     if options.forgets {
-        let (_, counted) = print_roughly(rt, options, plan, &mut reader, writer)?;
+        let (_, counted, taken) = print_roughly(rt, options, plan, &mut reader, writer)?;
         tell_missed(rt, counted.rough.missed);
-        return counted.taken.ended();
+        return taken.ended();
     }
-    let (_, counted) = print_exactly(rt, options, plan, &mut reader, writer)?;
-    counted.taken.ended()
+    let (_, _, taken) = print_exactly(rt, options, plan, &mut reader, writer)?;
+    taken.ended()
 }
 
 /// Counts the lines of a reader and prints them, also where memory ended before the input did. Answers
@@ -77,25 +77,25 @@ fn print_exactly<R, I, W>(
     plan: LinePlan,
     reader: &mut I,
     writer: W,
-) -> Result<(W, Counted), ProgramFault>
+) -> Result<(W, Counted, Taken), ProgramFault>
 where
     R: Threads + Sync + Wait + Eprint + AllocGlobal,
     I: Read,
     W: io::Write + Drop,
-    ensures printed { IfOk result (λ done. HasPrinted options None done.1.tally.catalog.texts
-        done.1.tally.counts.items (W.contents writer) (W.contents done.0)) }
-    ensures whole { IfOk result (λ done. IsTrue done.1.taken.is_whole
+    ensures printed { IfOk result (λ done. HasPrinted options None done.1.rough.tally.catalog.texts
+        done.1.rough.tally.counts.items (W.contents writer) (W.contents done.0)) }
+    ensures whole { IfOk result (λ done. IsTrue done.2.is_whole
         → IfSome (I.remaining reader.old) (λ input. IsTally (counted_of options.column (lines_in input))
-        done.1.tally.catalog.texts done.1.tally.counts.items)) }
+        done.1.rough.tally.catalog.texts done.1.rough.tally.counts.items)) }
     ensures first { IfOk result (λ done. IfSome (I.remaining reader.old) (λ input.
-        IsTallyOfFirst options.column input done.1.taken.lines done.1.tally.catalog.texts
-        done.1.tally.counts.items)) }
-    ensures unlimited { plan.limit ≡ None → IfOk result (λ done. IsTrue done.1.taken.is_whole) }
+        IsTallyOfFirst options.column input done.2.lines done.1.rough.tally.catalog.texts
+        done.1.rough.tally.counts.items)) }
+    ensures unlimited { plan.limit ≡ None → IfOk result (λ done. IsTrue done.2.is_whole) }
     ensures kept { IfOk result (λ done.
-        KeepsTo plan.limit done.1.taken.lines done.1.tally.catalog) }
-    ensures full { IfOk result (λ done. done.1.taken.is_whole ≡ false
+        KeepsTo plan.limit done.2.lines done.1.rough.tally.catalog) }
+    ensures full { IfOk result (λ done. done.2.is_whole ≡ false
         → IfSome plan.limit (λ limit. IfSome (I.remaining reader.old) (λ input.
-        MayNotFit options.column limit input done.1.taken.lines done.1.tally.catalog))) }
+        MayNotFit options.column limit input done.2.lines done.1.rough.tally.catalog))) }
     ensures errors { IfErr result (λ told.
         IsReadFault told ⊎ IsNoRoom told ⊎ (told ≡ fault.TooOften) ⊎ (told ≡ fault.Write)) }
     ensures too_many { result ≡ Err fault.FullOfLines → IfSome (I.remaining reader.old) (λ input.
@@ -103,11 +103,11 @@ where
     ensures too_often { result ≡ Err fault.TooOften → IfSome (I.remaining reader.old) (λ input.
         2 ^ 64 ≤ length (lines_in input)) }
 {
-    let counted = tally_lines(rt, rt.alloc(), plan, options.column, reader);
+    let counted = count_lines(rt, rt.alloc(), plan, options.column, false, reader);
     plan.progress.end(rt);
-    let counted = counted?;
-    let writer = print_tally(rt.alloc(), writer, &counted.tally, None, options)?;
-    Ok((writer, counted))
+    let (counted, taken) = counted?;
+    let writer = print_tally(rt.alloc(), writer, &counted.rough.tally, None, options)?;
+    Ok((writer, counted, taken))
 }
 
 /// Counts the lines of a reader but for the rarest, and prints them, each with how often it came at
@@ -118,7 +118,7 @@ fn print_roughly<R, I, W>(
     plan: LinePlan,
     reader: &mut I,
     writer: W,
-) -> Result<(W, RoughlyCounted), ProgramFault>
+) -> Result<(W, Counted, Taken), ProgramFault>
 where
     R: Threads + Sync + Wait + Eprint + AllocGlobal,
     I: Read,
@@ -126,21 +126,22 @@ where
     ensures printed { IfOk result (λ done. HasPrinted options (Some done.1.rough.missed.times)
         done.1.rough.tally.catalog.texts done.1.rough.tally.counts.items
         (W.contents writer) (W.contents done.0)) }
-    ensures bounds { IfOk result (λ done. IsTrue done.1.taken.is_whole
+    ensures bounds { IfOk result (λ done. IsTrue done.2.is_whole
         → IfSome (I.remaining reader.old) (λ input. AreBounds done.1.rough.missed.times
         (counted_of options.column (lines_in input)) done.1.rough.tally.catalog.texts
         done.1.rough.tally.counts.items)) }
     ensures first { IfOk result (λ done. IfSome (I.remaining reader.old) (λ input.
-        TellsFirst options.column input done.1.taken.lines done.1.rough)) }
+        TellsFirst options.column input done.2.lines done.1.rough)) }
     ensures made { IfOk result (λ done. IfSome (I.remaining reader.old) (λ input. (most : ℕ)
-        × HasTallied plan.limit options.column input done.1.taken.lines most done.1.rough)) }
-    ensures unlimited { plan.limit ≡ None → IfOk result (λ done. IsTrue done.1.taken.is_whole
+        × HasTallied (ahead_finer plan.limit) plan.limit options.column
+        (take done.2.lines (lines_in input)) most done.1.rough)) }
+    ensures unlimited { plan.limit ≡ None → IfOk result (λ done. IsTrue done.2.is_whole
         × (done.1.rough.missed.times ≡ 0)) }
     ensures kept { IfOk result (λ done.
-        KeepsTo plan.limit done.1.taken.lines done.1.rough.tally.catalog) }
-    ensures never { IfOk result (λ done. done.1.taken.is_whole ≡ false
+        KeepsTo plan.limit done.2.lines done.1.rough.tally.catalog) }
+    ensures never { IfOk result (λ done. done.2.is_whole ≡ false
         → IfSome plan.limit (λ limit. IfSome (I.remaining reader.old) (λ input.
-        FitsNever options.column limit input done.1.taken.lines done.1.rough.tally.catalog))) }
+        FitsNever options.column limit input done.2.lines done.1.rough.tally.catalog))) }
     ensures errors { IfErr result (λ told.
         IsReadFault told ⊎ IsNoRoom told ⊎ (told ≡ fault.TooOften) ⊎ (told ≡ fault.Write)) }
     ensures too_many { result ≡ Err fault.FullOfLines → IfSome (I.remaining reader.old) (λ input.
@@ -148,13 +149,13 @@ where
     ensures too_often { result ≡ Err fault.TooOften → IfSome (I.remaining reader.old) (λ input.
         2 ^ 64 ≤ length (lines_in input)) }
 {
-    let counted = tally_roughly(rt, rt.alloc(), plan, options.column, reader);
+    let counted = count_lines(rt, rt.alloc(), plan, options.column, true, reader);
     plan.progress.end(rt);
-    let counted = counted?;
+    let (counted, taken) = counted?;
     let rough = &counted.rough;
     let missed = Some(rough.missed.times);
     let writer = print_tally(rt.alloc(), writer, &rough.tally, missed, options)?;
-    Ok((writer, counted))
+    Ok((writer, counted, taken))
 }
 
 /// Tells how often lines were forgotten, if they were, and what that means for the counts.
@@ -184,25 +185,6 @@ fn print_tally<W: io::Write + Drop>(
     let mut rows = tally.rows(alloc)?;
     sort_rows(alloc, &mut rows, &options);
     print_rows(alloc, writer, rows.as_slice(), missed)
-}
-
-/// The key of the hash function: the one that is given, or else one from the machine's randomness.
-fn seed_of<R: RandomSource>(rt: &R, options: LineOptions) -> Result<u64, ProgramFault>
-    ensures { IfSome options.seed (λ seed. result ≡ Ok seed) }
-{
-    match options.seed {
-        Some(seed) => Ok(seed),
-        None => random(rt),
-    }
-}
-
-/// A number from the machine's randomness.
-fn random<R: RandomSource>(rt: &R) -> Result<u64, ProgramFault> {
-    let mut bytes = [0; 8];
-    match rt.fill_bytes(&mut bytes) {
-        Ok(()) => Ok(u64::from_le_bytes(bytes)),
-        Err(_) => Err(ProgramFault::Read),
-    }
 }
 
 /// Counts numbers.

@@ -13,7 +13,7 @@ use Rattle.nb_map.specs.Maps.{IsMine, MapOf, SeatOf}
 use Rattle.nb_texts.specs.Claims.{HasClaimedBy}
 use Rattle.nb_texts.specs.Clues.{AreCluesTo, ArePartedFrom, HasOnlyLooked, HaveOnlyLooked, IsClueTo}
 use Rattle.nb_texts.specs.Entering.{HasEntered, HasNoRoomFor}
-use Rattle.nb_texts.specs.Hashes.{key_for}
+use Rattle.nb_texts.specs.Hashes.{hash_of, key_for}
 use Rattle.nb_texts.specs.Lines.{HaveGrownBy}
 use Rattle.nb_texts.specs.declared.clues.Clue.TheVariants.{Hash, Place}
 use Rattle.nb_texts.specs.declared.clues.Clue.{Clue}
@@ -215,6 +215,20 @@ clues-more hashing texts lines left next clues clues' line clue so_far split pus
       subst (AreCluesTo hashing texts (so_far.done ++ line ∷ [])) (sym pushed)
       (zip-push (IsClueTo hashing texts) so_far.done clues line clue so_far.right right);
 }
+
+-- the first hash that is left is the next line's
+pub hashed-next :
+    (hashing : Hashing) (left : List (List ℕ)) (line : List ℕ) (next : List (List ℕ)) (hash : ℕ)
+    (hashes : List ℕ) → left ≡ line ∷ next → hash ∷ hashes ≡ map (hash_of hashing) left
+    → (hash ≡ hash_of hashing line) × (hashes ≡ map (hash_of hashing) next)
+hashed-next hashing left line next hash hashes split are =
+    let both : hash ∷ hashes ≡ hash_of hashing line ∷ map (hash_of hashing) next
+    = are ∙ ap (map (hash_of hashing)) split in
+    (cc, cc)
+
+pub hashed-none : (hashing : Hashing) (left : List (List ℕ)) → [] ≡ map (hash_of hashing) left → left ≡ []
+hashed-none hashing [] none = refl
+hashed-none hashing (line ∷ left) none = absurd cc
 
 -- clues to the lines of the next piece
 pub clues-further :

@@ -14,5 +14,6 @@ pub mod RestLemmas
 pub mod RowsLemmas
 pub mod SourceLemmas
 pub mod StoppedLemmas
+pub mod TakingLemmas
 pub mod TallyLemmas
 pub mod Theorems

@@ -11,4 +11,5 @@ pub mod Places
 pub mod Rows
 pub mod Sources
 pub mod Stopped
+pub mod Taking
 pub mod Tallies

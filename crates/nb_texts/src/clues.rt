@@ -1,7 +1,8 @@
 //! What is known of a block's lines before they are entered, found by several threads.
-ghost use Rattle.std.specs.Prelude.{◌≡◌, ◌≤◌, ◌++◌, IfOk, length};
+ghost use Rattle.std.specs.Prelude.{◌≡◌, ◌≤◌, ◌++◌, IfOk, length, map};
 ghost use Rattle.std.specs.Thread.{IsSync};
 ghost use Rattle.nb_texts.specs.Clues.{AreCluesTo, HasOnlyLooked, HaveOnlyLooked, IsClueTo};
+ghost use Rattle.nb_texts.specs.Hashes.{hash_of};
 ghost use Rattle.nb_texts.specs.Lines.{lines_in};
 
 use crate::hashing::{Hashing, key_after};
@@ -41,7 +42,8 @@ pub(crate) fn found_by<R: Threads + Sync>(
     ensures looked { HaveOnlyLooked readers.old readers.new }
 {
     if readers.is_empty() {
-        return clues_by(alloc, texts, hashing, text, &[]);
+        let hashes = hashes_of(alloc, hashing, text)?;
+        return clues_by(alloc, texts, hashing, text, hashes.as_slice(), &[]);
     }
     found_by_all(rt, alloc, texts, hashing, text, readers)
 }
@@ -111,65 +113,87 @@ fn looked_up(
     let mut rest = text;
     while !rest.is_empty() {
         let (piece, behind) = split_text(rest, TOGETHER.min(rest.len()));
-        let found = found_at(alloc, hashing, piece, reader)?;
-        let more = clues_by(alloc, texts, hashing, piece, found.as_slice())?;
+        let hashes = hashes_of(alloc, hashing, piece)?;
+        let hashes = hashes.as_slice();
+        let found = found_at(alloc, hashes, reader)?;
+        let more = clues_by(alloc, texts, hashing, piece, hashes, found.as_slice())?;
         clues.extend_from_slice(more.as_slice())?;
         rest = behind;
     }
     Ok(clues)
 }
 
-/// What the reader finds at the first key for each line.
+/// The hash of each line.
+fn hashes_of(alloc: Global, hashing: Hashing, text: &[u8]) -> Result<Vec<u64>, OutOfMemory>
+    ensures { IfOk result (λ hashes. hashes.items ≡ map (hash_of hashing) (lines_in text.now)) }
+{
+    let mut hashes = Vec::new(alloc);
+    let mut rest = text;
+    while !rest.is_empty() {
+        let (line, next) = split_line(rest);
+        hashes.push(hashing.hash_of(line))?;
+        rest = next;
+    }
+    Ok(hashes)
+}
+
+/// What the reader finds at the first key for each hash.
 fn found_at(
     alloc: Global,
-    hashing: Hashing,
-    text: &[u8],
+    hashes: &[u64],
     reader: &mut Handle,
 ) -> Result<Vec<Option<Num>>, OutOfMemory>
     ensures { HasOnlyLooked reader.old reader.new }
 {
     reader.known();
-    let keys = keys_of(alloc, hashing, text)?;
+    let keys = keys_of(alloc, hashes)?;
     let mut found = vec![in alloc; None; keys.len()]?;
     reader.get_many(keys.as_slice(), found.as_mut_slice());
     Ok(found)
 }
 
-/// The first key for each line. Where a key is another one, its line just isn't found.
-fn keys_of(alloc: Global, hashing: Hashing, text: &[u8]) -> Result<Vec<Key>, OutOfMemory> {
-    let mut keys = Vec::new(alloc);
-    let mut rest = text;
-    while !rest.is_empty() {
-        let (line, next) = split_line(rest);
-        keys.push(key_after(hashing.hash_of(line), 0))?;
-        rest = next;
+/// The first key for each hash. Where a key is another one, its line just isn't found.
+fn keys_of(alloc: Global, hashes: &[u64]) -> Result<Vec<Key>, OutOfMemory> {
+    let mut keys = Vec::with_capacity(alloc, hashes.len())?;
+    for hash in hashes {
+        keys.push(key_after(*hash, 0))?;
     }
     Ok(keys)
 }
 
-/// A clue to each line, for which these numbers were found, one after another: its hash where there is
-/// no number, or another line at its place.
+/// A clue to each line, which has this hash, and for which this number was found, one after another: its
+/// hash where there is no number, or another line at its place.
 fn clues_by(
     alloc: Global,
     texts: &Texts,
     hashing: Hashing,
     text: &[u8],
+    hashes: &[u64],
     found: &[Option<Num>],
 ) -> Result<Vec<Clue>, OutOfMemory>
+    requires { hashes.now ≡ map (hash_of hashing) (lines_in text.now) }
     ensures { IfOk result (λ clues. AreCluesTo hashing texts.now (lines_in text.now) clues.items) }
 {
-    let mut clues = Vec::new(alloc);
+    let mut clues = Vec::with_capacity(alloc, hashes.len())?;
     let mut rest = text;
-    while !rest.is_empty() {
+    for hash in hashes {
         let (line, next) = split_line(rest);
-        clues.push(clue_by(texts, hashing, line, found.get(clues.len())))?;
+        let number = found.get(clues.len());
+        clues.push(clue_by(texts, hashing, line, *hash, number))?;
         rest = next;
     }
     Ok(clues)
 }
 
-/// A clue to a line, for which this number was found.
-fn clue_by(texts: &Texts, hashing: Hashing, line: &[u8], found: Option<&Option<Num>>) -> Clue
+/// A clue to a line, which has this hash, and for which this number was found.
+fn clue_by(
+    texts: &Texts,
+    hashing: Hashing,
+    line: &[u8],
+    hash: u64,
+    found: Option<&Option<Num>>,
+) -> Clue
+    requires { hash ≡ hash_of hashing line.now }
     ensures { IsClueTo hashing texts.now line.now result }
 {
     if let Some(Some(place)) = found {
@@ -178,5 +202,5 @@ fn clue_by(texts: &Texts, hashing: Hashing, line: &[u8], found: Option<&Option<N
             return Clue::Place(place);
         }
     }
-    Clue::Hash(hashing.hash_of(line))
+    Clue::Hash(hash)
 }

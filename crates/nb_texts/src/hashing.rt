@@ -1,10 +1,12 @@
 //! Hashes of texts, and the keys under which a text of a hash is looked for.
-ghost use Rattle.std.specs.Prelude.{◌≡◌};
+ghost use Rattle.std.specs.Prelude.{◌≡◌, IfSome, Ok};
 ghost use Rattle.nb_texts.specs.Hashes.{hash_of, hashing_of, key_after};
 
 use core::hash::keyed_hasher;
 use nb_core::Key;
+use nb_lines::ProgramFault;
 use std::hash::{DefaultHasher, Hasher};
+use std::random::RandomSource;
 
 /// The second half of a hash function's key.
 const SECOND: u64 = 0x6e62_5f74_6578_7473;
@@ -33,12 +35,35 @@ impl Hashing {
         }
     }
 
+    /// The hash function of a seed or, where none is given, of a number from the machine's randomness.
+    pub fn seeded<R: RandomSource>(
+        rt: &R,
+        seed: Option<u64>,
+        bits: u32,
+    ) -> Result<Hashing, ProgramFault>
+        ensures { IfSome seed (λ seed. result ≡ Ok (hashing_of seed bits)) }
+    {
+        match seed {
+            Some(seed) => Ok(Hashing::new(seed, bits)),
+            None => Ok(Hashing::new(random(rt)?, bits)),
+        }
+    }
+
     pub fn hash_of(&self, text: &[u8]) -> u64
         ensures { result ≡ hash_of self.now text.now }
     {
         let mut hasher = self.hasher;
         hasher.write(text);
         hasher.finish() & self.mask
+    }
+}
+
+/// A number from the machine's randomness.
+fn random<R: RandomSource>(rt: &R) -> Result<u64, ProgramFault> {
+    let mut bytes = [0; 8];
+    match rt.fill_bytes(&mut bytes) {
+        Ok(()) => Ok(u64::from_le_bytes(bytes)),
+        Err(_) => Err(ProgramFault::Read),
     }
 }
 

@@ -1,5 +1,5 @@
 //! How a program takes the lines of an input.
-ghost use Rattle.std.specs.Prelude.{◌≡◌, MatchOption, min};
+ghost use Rattle.std.specs.Prelude.{◌≡◌, ◌≤◌, MatchOption, min};
 ghost use Rattle.nb_texts.specs.Memory.{ahead_under, room_at_first};
 
 use crate::hashing::Hashing;
@@ -32,7 +32,8 @@ pub struct LinePlan {
 impl LinePlan {
     /// How many bytes are asked for at once.
     pub fn ahead(&self) -> usize
-        ensures { result ≡ ahead_under self.now.limit }
+        ensures under { result ≡ ahead_under self.now.limit }
+        ensures some { 1 ≤ result }
     {
         match self.limit {
             Some(limit) => AHEAD.min(limit.bytes / BYTES_OF_AHEAD).max(1),

@@ -10,6 +10,7 @@ use memchr::memrchr;
 use nb_lines::{Done, ProgramFault};
 use std::alloc::Global;
 use std::io::{ErrorKind, Read};
+use std::sync::Wait;
 
 /// What a read came to.
 #[derive(Clone, Copy)]
@@ -24,15 +25,15 @@ pub(crate) enum Turn {
 
 /// What was read of an input: a block of whole lines, and what came behind it.
 #[derive(Drop)]
-pub struct LineSource {
+pub(crate) struct LineSource {
     block: Vec<u8>,
     rest: Vec<u8>,
     room: Vec<u8>,
 }
 
 impl LineSource {
-    /// Nothing was read. So many bytes will be asked for at once, 1 at least.
-    pub fn new(alloc: Global, ahead: usize) -> Result<LineSource, ProgramFault>
+    /// Nothing was read. So many bytes will be asked for at once.
+    pub(crate) fn new(alloc: Global, ahead: usize) -> Result<LineSource, ProgramFault>
         ensures rest { IfOk result (λ source. source.rest.items ≡ []) }
         ensures room { IfOk result (λ source. length source.room.items ≡ ahead) }
         ensures errors { IsOkUnless result fault.OutOfMemory }
@@ -45,21 +46,21 @@ impl LineSource {
     }
 
     /// The lines of the block.
-    pub fn block(&self) -> &[u8]
+    pub(crate) fn block(&self) -> &[u8]
         ensures { result.now ≡ self.now.block.items }
     {
         self.block.as_slice()
     }
 
     /// How many lines the block has.
-    pub fn lines(&self) -> usize
+    pub(crate) fn lines(&self) -> usize
         ensures { result ≡ length (lines_in self.now.block.items) }
     {
         count_lines(self.block.as_slice())
     }
 
     /// What is done once the block is too, which has so many lines.
-    pub fn done_with(&self, done: Done, lines: usize) -> Done
+    pub(crate) fn done_with(&self, done: Done, lines: usize) -> Done
         ensures lines { result.lines ≡ (done.lines + lines) % 2 ^ 64 }
         ensures bytes { result.bytes ≡ (done.bytes + length self.now.block.items) % 2 ^ 64 }
     {
@@ -71,8 +72,13 @@ impl LineSource {
 
     /// Reads the next block: whole lines that are there, one at least, for which it waits. It answers
     /// whether there was one.
-    pub fn refill<I: Read>(&mut self, reader: &mut I) -> Result<bool, ProgramFault>
+    pub(crate) fn refill<R: Wait, I: Read>(
+        &mut self,
+        rt: &R,
+        reader: &mut I,
+    ) -> Result<bool, ProgramFault>
         requires rest { IsInOneLine self.old.rest.items }
+        requires some { 1 ≤ length self.old.room.items }
         ensures rest { OnOk result (IsInOneLine self.new.rest.items) }
         ensures cut { IfOk result (λ some.
             HasCut some (I.remaining reader.old) (I.remaining reader.new) self.old.rest.items
@@ -85,7 +91,7 @@ impl LineSource {
         self.block.clear();
         self.block.extend_from_slice(self.rest.as_slice())?;
         self.rest.clear();
-        for _ in 0..u64::MAX {
+        for _ in rt.forever() {
             match read_on(
                 reader,
                 self.room.as_mut_slice(),
@@ -97,7 +103,7 @@ impl LineSource {
                 Turn::More => {}
             }
         }
-        Err(ProgramFault::Read)
+        unreachable!()
     }
 }
 
@@ -136,15 +142,13 @@ fn read_on<I: Read>(
     block: &mut Vec<u8>,
     rest: &mut Vec<u8>,
 ) -> Result<Turn, ProgramFault>
-    requires { rest.old.items ≡ [] }
+    requires none { rest.old.items ≡ [] }
+    requires some { 1 ≤ length room.old }
     ensures taken { IfOk result (HasTakenIn (length room.old) (I.remaining reader.old)
         (I.remaining reader.new) block.old.items block.new.items rest.new.items) }
     ensures room { length room.new ≡ length room.old }
     ensures errors { IfErr result IsReadFault }
 {
-    if room.is_empty() {
-        return Err(ProgramFault::Read);
-    }
     let Some(count) = read_some(reader, room)? else {
         return Ok(Turn::More);
     };

@@ -2,7 +2,7 @@ use Rattle.std.proofs.Common.{◌≡◌, ap, arith, refl, subst}
 use Rattle.std.specs.Bool.{OnFalse}
 use Rattle.std.specs.Prelude.{vec_items}
 use Rattle.nb_texts.specs.declared.catalog.Catalog.{Catalog}
-use Rattle.nb_tally.proofs.ForgottenLemmas.{made-from, narrow-same, same-told}
+use Rattle.nb_tally.proofs.ForgottenLemmas.{made-from, narrow-same, same-ready, same-told}
 use Rattle.nb_tally.specs.Forgotten.{IsAlike, Never}
 use Rattle.nb_tally.specs.declared.lines_forgotten.RoughTally.{RoughTally}
 use Rattle.nb_tally.proofs.lines_forgotten.make_room.Goals as goal
@@ -12,10 +12,17 @@ returns-then-branch-clause-made g c = λ most narrow.
     let made = c.in_ok-make_room_within.ensures in
     Never (record { texts = made.texts; counts = ap vec_items made.counts; missed = refl })
 
-pub returns-then-not-fits_alone-clause-made : goal.returns-then-not-fits_alone-clause-made
-returns-then-not-fits_alone-clause-made g c = λ most narrow.
+pub returns-then-not-forgets-clause-made : goal.returns-then-not-forgets-clause-made
+returns-then-not-forgets-clause-made g c = λ most narrow.
     let made = c.in_ok-make_room_within.ensures in
     Never (record { texts = made.texts; counts = ap vec_items made.counts; missed = refl })
+
+pub returns-then-not-forgets-clause-ready : goal.returns-then-not-forgets-clause-ready
+returns-then-not-forgets-clause-ready g c =
+    let before : RoughTally = c.args.rough in
+    let after : RoughTally = record { tally = c.make_room_within.new.self; missed = before.missed } in
+    let made = c.in_ok-make_room_within.ensures in
+    same-ready before after c.requires.ready made.rest made.texts (ap vec_items made.counts)
 
 pub returns-clause-told : goal.returns-clause-told
 returns-clause-told g c = λ lines tells.
