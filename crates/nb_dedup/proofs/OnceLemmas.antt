@@ -14,7 +14,7 @@ use Rattle.nb_texts.specs.Taking.{HasLeft}
 use Rattle.nb_texts.specs.declared.catalog.Catalog.{Catalog}
 use Rattle.nb_texts.specs.declared.memory.Load.{Load}
 use Rattle.nb_texts.specs.declared.memory.MemoryLimit.{MemoryLimit}
-use Rattle.nb_dedup.specs.Limits.{HasPrintedLines, LinesMayNotFit, MayNotFit}
+use Rattle.nb_dedup.specs.Limits.{HasPrintedLines, LinesMayNotFit, BlockMayNotFit}
 
 pub printed-none :
     (limit : Option MemoryLimit) (before : Option (List ℕ)) (catalog : Catalog) → IsAtRest catalog
@@ -79,7 +79,7 @@ printed-left_alone limit before now lines catalog made printed same = rw same pr
 pub printed-over :
     (limit : Option MemoryLimit) (catalog : Catalog) (load : Load) (block : List ℕ)
     → load.lines ≡ length (lines_in block) → load.bytes ≡ length block
-    → TellsWhetherFits limit catalog load false → MayNotFit limit catalog block
+    → TellsWhetherFits limit catalog load false → BlockMayNotFit limit catalog block
 printed-over limit catalog load block many bytes over = of (length (lines_in block)) (length block) many bytes
   where
     of :
@@ -104,11 +104,11 @@ printed-full limit before now lines more catalog made block load printed same ma
 -- a block that was left comes behind lines
 pub printed-left :
     (limit : Option MemoryLimit) (known : Option (List ℕ)) (taken : ℕ) (catalog : Catalog)
-    → HasLeft (ahead_under limit) known taken (MayNotFit limit catalog)
+    → HasLeft (ahead_under limit) known taken (BlockMayNotFit limit catalog)
     → IfSome limit (λ limit. IfSome known (λ input. LinesMayNotFit limit input taken catalog))
 printed-left None known taken catalog left = tt
 printed-left (Some limit) known taken catalog left =
-    left-told (ahead_under (Some limit)) known taken (MayNotFit (Some limit) catalog)
+    left-told (ahead_under (Some limit)) known taken (BlockMayNotFit (Some limit) catalog)
     (λ input. LinesMayNotFit limit input taken catalog) left
     (λ input block one over next.
     record { block = block; is_block = one; rest = next.0; next = next.1; over = over })

@@ -23,8 +23,8 @@ pub record LinesMayNotFit (limit : MemoryLimit) (input : List ℕ) (lines : ℕ)
     pub over : limit.bytes < most_bytes_with limit.each catalog (load_of block)
 
 -- the lines of a block might not fit within a limit, if they are new; without one they do
-abbrev pub MayNotFit : Option MemoryLimit → Catalog → (block : List ℕ) → Type 0
-MayNotFit limit catalog block = TellsWhetherFits limit catalog (load_of block) false
+abbrev pub BlockMayNotFit : Option MemoryLimit → Catalog → (block : List ℕ) → Type 0
+BlockMayNotFit limit catalog block = TellsWhetherFits limit catalog (load_of block) false
 
 -- The distinct ones of these lines were written, and are all that the catalog has.
 pub record HasPrintedLines (limit : Option MemoryLimit) (before after : Option (List ℕ))

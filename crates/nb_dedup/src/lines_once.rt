@@ -26,13 +26,13 @@ pub(crate) struct Printed<W: Write + Drop> {
 
 impl<W: Write + Drop> TakesLines for Printed<W> {
     ghost use Rattle.nb_texts.specs.Taking.{IsTooMuch};
-    ghost use Rattle.nb_dedup.specs.Limits.{HasPrintedLines, MayNotFit};
+    ghost use Rattle.nb_dedup.specs.Limits.{HasPrintedLines, BlockMayNotFit};
 
     ghost has_taken = { λ _ first now lines. (now.plan ≡ first.plan)
         × HasPrintedLines first.plan.limit (W.contents first.writer) (W.contents now.writer) lines
         now.catalog };
 
-    ghost leaves = { λ first now block. MayNotFit first.plan.limit now.catalog block };
+    ghost leaves = { λ first now block. BlockMayNotFit first.plan.limit now.catalog block };
 
     ghost refuses = { λ _ told lines. IsTooMuch told lines };
 

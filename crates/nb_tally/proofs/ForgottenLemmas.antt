@@ -14,7 +14,7 @@ use Rattle.nb_texts.specs.declared.catalog.Catalog.{Catalog}
 use Rattle.nb_texts.specs.declared.memory.Load.{Load}
 use Rattle.nb_texts.specs.declared.memory.MemoryLimit.{MemoryLimit}
 use Rattle.nb_tally.proofs.CountedLemmas.{counted-all, counted-append, counted-many, counted-none}
-use Rattle.nb_tally.specs.Counted.{HasCounted, IsLeftOut}
+use Rattle.nb_tally.specs.Counted.{HasCountedBlocks, IsLeftOut}
 use Rattle.nb_tally.specs.Fields.{counted_of}
 use Rattle.nb_tally.specs.Forgotten.{Again, Begun, CanForget, Entered, FitsNever, HasCutFor, HasForgotten, HasRoomForLines, HasTallied, HasTalliedMore, IsAlike, IsNarrow, KeepsTold, Never, Tells, ahead_finer}
 use Rattle.nb_tally.specs.Limits.{MayNotFit}
@@ -139,7 +139,7 @@ pub roughly-none :
     (ahead : ℕ) (column : Option Column) (limit : Option MemoryLimit) (forgets : Bool)
     (rough : RoughTally) → IsAtRest rough.tally.catalog → rough.tally.catalog.texts ≡ [] → rough.tally.counts.items ≡ []
     → rough.missed ≡ record { times = 0; cuts = 0 } → IsNarrow limit 0 rough.tally.catalog
-    → HasCounted ahead column limit forgets rough []
+    → HasCountedBlocks ahead column limit forgets rough []
 roughly-none ahead column limit forgets rough rest none zero nothing narrow =
     let missed = ap (λ (missed : Missed). missed.times) nothing in
     record {
@@ -165,7 +165,7 @@ pub roughly-more :
     (ahead : ℕ) (column : Option Column) (limit : Option MemoryLimit) (forgets : Bool)
     (lines : List (List ℕ))
     (rough made rough' : RoughTally) (block counted : List ℕ) (load : Load)
-    → HasCounted ahead column limit forgets rough lines → IsBlock ahead block
+    → HasCountedBlocks ahead column limit forgets rough lines → IsBlock ahead block
     → lines_in counted ≡ counted_of column (lines_in block) → load.lines ≡ length (lines_in block)
     → load.bytes ≡ length counted → KeepsTold rough made
     → TellsWhetherFits limit made.tally.catalog load true
@@ -180,7 +180,7 @@ pub roughly-more :
     → rough'.tally.catalog.texts ≡ with_new_lines made.tally.catalog.texts (lines_in counted)
     → rough'.tally.catalog.handle.map ≡ made.tally.catalog.handle.map
     → rough'.tally.catalog.room ≡ made.tally.catalog.room → rough'.missed ≡ made.missed
-    → HasCounted ahead column limit forgets rough' (lines ++ lines_in block)
+    → HasCountedBlocks ahead column limit forgets rough' (lines ++ lines_in block)
 roughly-more ahead column limit forgets lines rough made rough' block counted load has one are many bytes keeps fits cut
     wide room same alike ready told more texts map still missed =
     let among = 2 * (length rough.tally.catalog.texts + length (lines_in block)) in
@@ -226,9 +226,9 @@ roughly-more ahead column limit forgets lines rough made rough' block counted lo
 pub roughly-same :
     (ahead : ℕ) (column : Option Column) (limit : Option MemoryLimit) (forgets : Bool)
     (lines : List (List ℕ))
-    (rough made : RoughTally) → HasCounted ahead column limit forgets rough lines → CanForget made
+    (rough made : RoughTally) → HasCountedBlocks ahead column limit forgets rough lines → CanForget made
     → IsAlike rough made → made.tally.catalog ≡ rough.tally.catalog
-    → HasCounted ahead column limit forgets made lines
+    → HasCountedBlocks ahead column limit forgets made lines
 roughly-same ahead column limit forgets lines rough made has ready alike same = record {
   ready = ready;
   tells =
@@ -249,7 +249,7 @@ roughly-same ahead column limit forgets lines rough made has ready alike same = 
 pub roughly-past :
     (ahead : ℕ) (column : Option Column) (limit : Option MemoryLimit) (forgets : Bool)
     (lines more : List (List ℕ))
-    (rough : RoughTally) (most : ℕ) → HasCounted ahead column limit forgets rough lines
+    (rough : RoughTally) (most : ℕ) → HasCountedBlocks ahead column limit forgets rough lines
     → most < length rough.tally.catalog.texts
     → most < length (distinct (counted_of column (lines ++ more)))
 roughly-past ahead column limit forgets lines more rough most has past =
@@ -269,7 +269,7 @@ pub roughly-full :
     (ahead : ℕ) (column : Option Column) (limit : Option MemoryLimit) (forgets : Bool)
     (lines more : List (List ℕ))
     (rough made : RoughTally) (block counted : List ℕ) (load : Load)
-    → HasCounted ahead column limit forgets rough lines → KeepsTold rough made
+    → HasCountedBlocks ahead column limit forgets rough lines → KeepsTold rough made
     → lines_in counted ≡ counted_of column (lines_in block) → load.lines ≡ length (lines_in block)
     → HasRoomForLines (length made.tally.catalog.texts + load.lines) made.tally.catalog
     → made.tally.catalog.room < length (with_new_lines made.tally.catalog.texts (lines_in counted))
@@ -293,7 +293,7 @@ pub roughly-often :
     (ahead : ℕ) (column : Option Column) (limit : Option MemoryLimit) (forgets : Bool)
     (lines more : List (List ℕ))
     (rough made : RoughTally) (counted : List (List ℕ))
-    → HasCounted ahead column limit forgets rough lines → KeepsTold rough made
+    → HasCountedBlocks ahead column limit forgets rough lines → KeepsTold rough made
     → ((all : List (List ℕ)) → Tells made all → 2 ^ 64 ≤ length (all ++ counted))
     → 2 ^ 64 ≤ length (counted_of column lines ++ (counted ++ more))
 roughly-often ahead column limit forgets lines more rough made counted has keeps often =

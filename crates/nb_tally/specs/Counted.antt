@@ -27,7 +27,7 @@ pub record IsLeftOut (column : Option Column) (limit : Option MemoryLimit) (forg
       forgets ≡ true → IfSome limit (λ limit. FitsAlone limit catalog (load_of counted) → ⊥)
 
 -- These lines were counted: all of them, unless some may be forgotten.
-pub record HasCounted (ahead : ℕ) (column : Option Column) (limit : Option MemoryLimit) (forgets : Bool)
+pub record HasCountedBlocks (ahead : ℕ) (column : Option Column) (limit : Option MemoryLimit) (forgets : Bool)
     (rough : RoughTally) (lines : List (List ℕ)) : Type 0 where
   pub ready : CanForget rough
   pub tells : Tells rough (counted_of column lines)

@@ -1,7 +1,7 @@
 //! Lines, counted block after block.
 ghost use Rattle.std.specs.Prelude.{◌≡◌, IfErr, IfOk, false};
-ghost use Rattle.nb_texts.specs.Taking.{HasLeft, HasTaken, IsEndedBy, IsTooMuch};
-ghost use Rattle.nb_tally.specs.Counted.{HasCounted, IsLeftOut, ahead_for};
+ghost use Rattle.nb_texts.specs.Taking.{HasLeft, HasTakenLines, IsEndedBy, IsTooMuch};
+ghost use Rattle.nb_tally.specs.Counted.{HasCountedBlocks, IsLeftOut, ahead_for};
 ghost use Rattle.nb_tally.specs.Fields.{counted_of};
 
 use crate::fields::{Column, counted_in};
@@ -26,7 +26,7 @@ pub(crate) struct Counted {
 impl TakesLines for Counted {
     ghost has_taken = { λ ahead first now lines. (now.plan ≡ first.plan)
         × (now.column ≡ first.column) × (now.forgets ≡ first.forgets)
-        × HasCounted ahead first.column first.plan.limit first.forgets now.rough lines };
+        × HasCountedBlocks ahead first.column first.plan.limit first.forgets now.rough lines };
 
     ghost leaves = { λ first now block.
         IsLeftOut first.column first.plan.limit first.forgets now.rough.tally.catalog block };
@@ -71,8 +71,8 @@ pub(crate) fn count_lines<R, I>(
 where
     R: Threads + Sync + Wait + Eprint,
     I: Read,
-    ensures taken { IfOk result (λ done. HasTaken (I.remaining reader.old) done.1
-        (HasCounted (ahead_for forgets plan.limit) column plan.limit forgets done.0.rough)) }
+    ensures taken { IfOk result (λ done. HasTakenLines (I.remaining reader.old) done.1
+        (HasCountedBlocks (ahead_for forgets plan.limit) column plan.limit forgets done.0.rough)) }
     ensures left { IfOk result (λ done. done.1.is_whole ≡ false
         → HasLeft (ahead_for forgets plan.limit) (I.remaining reader.old) done.1.lines
         (IsLeftOut column plan.limit forgets done.0.rough.tally.catalog)) }

@@ -10,7 +10,7 @@ use Rattle.nb_texts.proofs.ReadingLemmas.{IsReading, on-known, reading-begun, re
 use Rattle.nb_texts.specs.Catalogs.{IsNoRoom}
 use Rattle.nb_texts.specs.Lines.{distinct, lines_in, with_new_lines}
 use Rattle.nb_texts.specs.Sources.{HasCut, IsBlock, IsReadFault}
-use Rattle.nb_texts.specs.Taking.{AreRefused, AreTooMany, Follows, HasLeft, HasTaken, IsEndedBy, IsTooMuch}
+use Rattle.nb_texts.specs.Taking.{LinesAreRefused, AreTooMany, Follows, HasLeft, HasTakenLines, IsEndedBy, IsTooMuch}
 use Rattle.nb_texts.specs.declared.memory.Taken.{Taken}
 
 -- ---- in the loop
@@ -34,7 +34,7 @@ pub taking-ended :
     (known now next : Option (List ℕ)) (holds : List (List ℕ) → Type 0) (taken taken' : Taken)
     (rest rest' block : List ℕ) (some : Bool) → IsTaking known now holds taken.lines rest
     → HasCut some now next rest block rest' → some ≡ false → taken'.lines ≡ taken.lines
-    → HasTaken known taken' holds
+    → HasTakenLines known taken' holds
 taking-ended known now next holds taken taken' rest rest' block some way cut ended same = record {
   lines = way.lines;
   many = same ∙ way.many;
@@ -47,7 +47,7 @@ taking-ended known now next holds taken taken' rest rest' block some way cut end
 pub taking-stopped :
     (known now : Option (List ℕ)) (holds holds' : List (List ℕ) → Type 0) (taken : Taken)
     (rest : List ℕ) → IsTaking known now holds taken.lines rest → taken.is_whole ≡ false
-    → ((lines : List (List ℕ)) → holds lines → holds' lines) → HasTaken known taken holds'
+    → ((lines : List (List ℕ)) → holds lines → holds' lines) → HasTakenLines known taken holds'
 taking-stopped known now holds holds' taken rest way part same = record {
   lines = way.lines;
   many = way.many;
@@ -89,11 +89,11 @@ module _
     pub taking-refused :
         (refuses : List (List ℕ) → Type 0)
         → ((lines more : List (List ℕ)) → holds lines → refuses (lines ++ (lines_in block ++ more)))
-        → AreRefused known refuses
+        → LinesAreRefused known refuses
     taking-refused refuses told = of known read
       where
         of : (known : Option (List ℕ)) → IsReading known next (way.lines ++ lines_in block) rest'
-            → AreRefused known refuses
+            → LinesAreRefused known refuses
         of None reading = record {
           lines = way.lines ++ (lines_in block ++ []);
           refused = told way.lines [] way.held;
@@ -114,8 +114,8 @@ module _
 
 pub taken-as :
     (known : Option (List ℕ)) (taken : Taken) (holds holds' : List (List ℕ) → Type 0)
-    → HasTaken known taken holds → ((lines : List (List ℕ)) → holds lines → holds' lines)
-    → HasTaken known taken holds'
+    → HasTakenLines known taken holds → ((lines : List (List ℕ)) → holds lines → holds' lines)
+    → HasTakenLines known taken holds'
 taken-as known taken holds holds' has told = record {
   lines = has.lines;
   many = has.many;
@@ -132,7 +132,7 @@ left-as ahead known taken leaves leaves' has told =
     record { block = has.block; is_block = has.is_block; left = told has.block has.left; next = has.next }
 
 module _ (known : Option (List ℕ)) (taken : Taken) (holds P : List (List ℕ) → Type 0)
-    (has : HasTaken known taken holds) (told : (lines : List (List ℕ)) → holds lines → P lines)
+    (has : HasTakenLines known taken holds) (told : (lines : List (List ℕ)) → holds lines → P lines)
   where
     -- of all lines
     pub taken-whole : IsTrue taken.is_whole → IfSome known (λ input. P (lines_in input))

@@ -9,7 +9,7 @@ use Rattle.nb_texts.specs.Sources.{IsBlock, IsReadFault}
 use Rattle.nb_texts.specs.declared.memory.Taken.{Taken}
 
 -- Lines were taken: the first ones of the input, so many, or all of them.
-pub record HasTaken (known : Option (List ℕ)) (taken : Taken) (holds : List (List ℕ) → Type 0) :
+pub record HasTakenLines (known : Option (List ℕ)) (taken : Taken) (holds : List (List ℕ) → Type 0) :
     Type 0 where
   pub lines : List (List ℕ)
   pub many : taken.lines ≡ length lines
@@ -33,7 +33,7 @@ pub record HasLeft (ahead : ℕ) (known : Option (List ℕ)) (taken : ℕ) (leav
   pub next : IfSome known (Follows taken block)
 
 -- The lines of the input are refused.
-pub record AreRefused (known : Option (List ℕ)) (refuses : List (List ℕ) → Type 0) : Type 0 where
+pub record LinesAreRefused (known : Option (List ℕ)) (refuses : List (List ℕ) → Type 0) : Type 0 where
   pub lines : List (List ℕ)
   pub refused : refuses lines
   pub are : IfSome known (λ input. lines ≡ lines_in input)
@@ -46,7 +46,7 @@ AreTooMany known = IfSome known (λ input. 2 ^ 64 ≤ length (lines_in input))
 abbrev pub IsEndedBy : Option (List ℕ) → (refuses : ProgramFault → List (List ℕ) → Type 0) → ProgramFault
     → Type 0
 IsEndedBy known refuses told =
-    IsReadFault told ⊎ AreRefused known (refuses told) ⊎ ((told ≡ fault.TooOften) × AreTooMany known)
+    IsReadFault told ⊎ LinesAreRefused known (refuses told) ⊎ ((told ≡ fault.TooOften) × AreTooMany known)
 
 -- what was taken of lines is refused, or a write has failed
 pub record IsTooMuch (told : ProgramFault) (taken : List (List ℕ)) : Type 0 where

@@ -5,7 +5,7 @@ ghost use Rattle.std.specs.Thread.{IsSync};
 ghost use Rattle.nb_lines.specs.declared.faults.ProgramFault.{ProgramFault};
 ghost use Rattle.nb_texts.specs.Lines.{lines_in};
 ghost use Rattle.nb_texts.specs.Sources.{IsBlock};
-ghost use Rattle.nb_texts.specs.Taking.{HasLeft, HasTaken, IsEndedBy};
+ghost use Rattle.nb_texts.specs.Taking.{HasLeft, HasTakenLines, IsEndedBy};
 
 use crate::memory::Taken;
 use crate::source::LineSource;
@@ -68,7 +68,7 @@ where
     requires begun { T.has_taken ahead taker taker [] }
     requires some { 1 ≤ ahead }
     ensures taken { IfOk result (λ done.
-        HasTaken (I.remaining reader.old) done.1 (T.has_taken ahead taker done.0)) }
+        HasTakenLines (I.remaining reader.old) done.1 (T.has_taken ahead taker done.0)) }
     ensures left { IfOk result (λ done. done.1.is_whole ≡ false
         → HasLeft ahead (I.remaining reader.old) done.1.lines (T.leaves taker done.0)) }
     ensures refused { IfErr result (IsEndedBy (I.remaining reader.old) (T.refuses taker)) }

@@ -7,7 +7,7 @@ use Rattle.nb_texts.proofs.Theorems.{ended-errors, ended-too_many, ended-too_oft
 use Rattle.nb_texts.specs.Lines.{distinct, text_of_lines}
 use Rattle.nb_texts.specs.Memory.{KeepsTo, load_of}
 use Rattle.nb_texts.specs.Taking.{HasLeft}
-use Rattle.nb_dedup.specs.Limits.{HasPrintedFirst, MayNotFit}
+use Rattle.nb_dedup.specs.Limits.{HasPrintedFirst, BlockMayNotFit}
 use Rattle.nb_dedup.proofs.OnceLemmas.{printed-left, printed-none}
 use Rattle.nb_dedup.proofs.lines_once.print_once.Goals as goal
 
@@ -63,7 +63,7 @@ returns-clause-full g c =
     IfOk-weaker c.take_lines.result _ _
     (λ done left part.
     printed-left limit known done.1.lines done.0.catalog
-    (subst (λ ahead. HasLeft ahead known done.1.lines (MayNotFit limit done.0.catalog))
+    (subst (λ ahead. HasLeft ahead known done.1.lines (BlockMayNotFit limit done.0.catalog))
     c.ahead.ensures.under (left part)))
     c.take_lines.ensures.left
 

@@ -4,7 +4,7 @@ use Rattle.nb_texts.proofs.Theorems.{taken-as}
 use Rattle.nb_texts.specs.Catalogs.{IsAtRest}
 use Rattle.nb_texts.specs.Taking.{HasLeft}
 use Rattle.nb_texts.specs.declared.catalog.Catalog.{Catalog}
-use Rattle.nb_tally.specs.Counted.{HasCounted, IsLeftOut, ahead_for}
+use Rattle.nb_tally.specs.Counted.{HasCountedBlocks, IsLeftOut, ahead_for}
 use Rattle.nb_tally.specs.declared.lines_forgotten.RoughTally.{RoughTally}
 use Rattle.nb_tally.proofs.ForgottenLemmas.{narrow-begun, roughly-none}
 use Rattle.nb_tally.proofs.lines_counted.count_lines.Goals as goal
@@ -37,8 +37,8 @@ returns-clause-taken g c =
     IfOk-weaker c.take_lines.result _ _
     (λ done has.
     taken-as (g.I.Read.remaining c.args.reader.now) done.1 _
-    (HasCounted (ahead_for c.args.forgets limit) column limit c.args.forgets done.0.rough) has
-    (λ lines held. subst (λ ahead. HasCounted ahead column limit c.args.forgets done.0.rough lines)
+    (HasCountedBlocks (ahead_for c.args.forgets limit) column limit c.args.forgets done.0.rough) has
+    (λ lines held. subst (λ ahead. HasCountedBlocks ahead column limit c.args.forgets done.0.rough lines)
     c.ahead_of-ahead.ensures.asked held.3))
     c.take_lines.ensures.taken
 
