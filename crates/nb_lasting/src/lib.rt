@@ -6,8 +6,6 @@
 
 mod closing;
 mod counting;
-#[cfg(test)]
-mod example_tests;
 mod faults;
 mod gathered;
 mod guest;

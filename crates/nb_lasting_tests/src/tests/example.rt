@@ -2,8 +2,8 @@
 //! refused.
 ghost use Rattle.std.specs.Prelude.{All, ◌≡◌};
 
-use crate::{GrowFault, Guest, SharedLasting};
 use nb_core::{Key, Num, OutOfMemory};
+use nb_lasting::{GrowFault, Guest, SharedLasting};
 use std::alloc::Global;
 use std::process::Abort;
 use std::sync::Wait;
