@@ -6,14 +6,14 @@ ghost use Rattle.nb_lasting.specs.Holding.{IsIdleGuest};
 ghost use Rattle.nb_lasting.specs.Renewal.{HoldsBelow, IsIdleToken};
 ghost use Rattle.nb_lasting.specs.Shared.{FitsLanes};
 
-use crate::gathered::joined;
+use crate::gathered::join_handles;
 use crate::guest::Guest;
 use crate::shared::{Row, Token, become_guest, hold};
 use nb_map::{Ended, Handle};
 use std::sync::Wait;
 
 /// The token becomes a lane's guest, and takes the lane's handle out of its slot.
-pub(crate) fn gather_from<R: Wait>(
+pub(crate) fn take_handle_as_guest<R: Wait>(
     rt: &R,
     row: &Row,
     token: &mut Token,
@@ -46,7 +46,7 @@ pub(crate) fn gather_from<R: Wait>(
 }
 
 /// Takes the handles of all guests' lanes.
-fn gather_guests<R: Wait>(
+fn take_all_as_guests<R: Wait>(
     rt: &R,
     row: &Row,
     token: &mut Token,
@@ -65,7 +65,7 @@ fn gather_guests<R: Wait>(
     let mut handles = room;
     for guest in guests {
         let lane = handles.len();
-        gather_from(rt, row, token, &mut handles, guest.into_token(), lane);
+        take_handle_as_guest(rt, row, token, &mut handles, guest.into_token(), lane);
     }
     handles
 }
@@ -88,8 +88,8 @@ pub(crate) fn close_row<R: Wait>(
     requires all { AreAllOf row.now.table_id row.now.key.seats guests.items }
     ensures { HaveEnded guests.items result }
 {
-    let handles = gather_guests(rt, row, token, room, guests);
-    match joined(handles).close(rt) {
+    let handles = take_all_as_guests(rt, row, token, room, guests);
+    match join_handles(handles).close(rt) {
         Ok(ended) => ended,
         Err(_) => unreachable!(),
     }

@@ -8,7 +8,7 @@ ghost use Rattle.nb_lasting.specs.inside.Guests.{hall_of};
 
 use crate::gathered::counted;
 use crate::hall::Hall;
-use crate::renewing::{all_home, gather_all};
+use crate::renewing::{all_home, take_all_handles};
 use crate::shared::Token;
 use nb_core::OutOfMemory;
 use std::sync::Wait;
@@ -37,7 +37,7 @@ pub(crate) fn count_through<R: Wait>(
 {
     let row = &hall.table.shared;
     let seats = hall.table.slot_count();
-    let handles = gather_all(rt, row, token, hall.alloc, seats)?;
+    let handles = take_all_handles(rt, row, token, hall.alloc, seats)?;
     let (handles, size) = counted(rt, hall.alloc, handles);
     all_home(row, token, handles, lane);
     match size {

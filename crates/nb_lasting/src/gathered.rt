@@ -1,5 +1,5 @@
 //! All handles of a map, each with one seat, are made one, which is counted or made anew, and
-//! parted again.
+//! split again.
 ghost use Rattle.std.specs.Prelude.{IfErr, IfOk, ℕ, length, map, ◌<◌, ◌≡◌};
 ghost use Rattle.nb_core.specs.declared.calls.Call.TheVariants as call;
 ghost use Rattle.nb_map.specs.Handles.{HandleOf, IsSameMap, IsWhole, handle_on, seats_of};
@@ -12,7 +12,7 @@ use std::alloc::Global;
 use std::sync::Wait;
 
 /// All seats in one handle, in the order of their handles.
-pub(crate) fn joined(handles: Vec<Handle>) -> Handle
+pub(crate) fn join_handles(handles: Vec<Handle>) -> Handle
     requires single { AreSingle handles.items }
     ensures map { (single : AreSingle handles.items) → result.map ≡ single.shared }
     ensures seats { seats_of result ≡ seats_of_each handles.items }
@@ -26,7 +26,7 @@ pub(crate) fn joined(handles: Vec<Handle>) -> Handle
 }
 
 /// A handle for each seat, in order. It waits for the memory for two small vectors.
-fn parted<R: Wait>(rt: &R, alloc: Global, whole: Handle) -> Vec<Handle>
+fn split_handle<R: Wait>(rt: &R, alloc: Global, whole: Handle) -> Vec<Handle>
     ensures { result.items ≡ map (handle_on whole.map) (seats_of whole) }
 {
     let mut handle = whole;
@@ -58,7 +58,7 @@ fn settle<R: Wait>(rt: &R, alloc: Global, whole: &mut Handle)
 
 /// Handles of a new map in place of these. Where that is refused they are of the same map, and all
 /// of them know what the refused renewal has read.
-pub(crate) fn parted_anew<R: Wait>(
+pub(crate) fn renew_handles<R: Wait>(
     rt: &R,
     alloc: Global,
     handles: Vec<Handle>,
@@ -69,12 +69,12 @@ pub(crate) fn parted_anew<R: Wait>(
         → length handles.items ≡ single.shared.chain.shape.seats }
     ensures { IsPartedAnew shape handles.items result.0.items result.1 }
 {
-    let mut whole = joined(handles);
+    let mut whole = join_handles(handles);
     let renewed = whole.renew(alloc, shape);
     if renewed.is_err() {
         settle(rt, alloc, &mut whole);
     }
-    (parted(rt, alloc, whole), renewed)
+    (split_handle(rt, alloc, whole), renewed)
 }
 
 /// The same handles, and how many keys the map has, unless memory to count them is refused.
@@ -86,9 +86,9 @@ pub(crate) fn counted<R: Wait>(
     requires single { AreSingle handles.items }
     ensures { IsPartedCounted handles.items result.0.items result.1 }
 {
-    let mut whole = joined(handles);
+    let mut whole = join_handles(handles);
     let size = whole.settle(alloc);
-    (parted(rt, alloc, whole), size)
+    (split_handle(rt, alloc, whole), size)
 }
 
 /// Makes a write by the handle of a lane.

@@ -15,7 +15,7 @@ ghost use Rattle.nb_lasting.specs.declared.faults.GrowFault.TheVariants as fault
 ghost use Rattle.nb_lasting.specs.inside.Guests.{hall_of};
 
 use crate::faults::{GrowFault, WriteFault};
-use crate::gathered::{counted, parted_anew, write_by};
+use crate::gathered::{counted, renew_handles, write_by};
 use crate::hall::Hall;
 use crate::shapes::{GREATEST, shape_for};
 use crate::shared::{Row, Token, give, give_anew, give_back, hold};
@@ -26,7 +26,13 @@ use std::sync::Wait;
 use std::sync::atomic::Ordering;
 
 /// Takes a lane's handle out of its slot, to those of the lanes below.
-fn gather<R: Wait>(rt: &R, row: &Row, token: &mut Token, handles: &mut Vec<Handle>, lane: usize)
+fn take_handle<R: Wait>(
+    rt: &R,
+    row: &Row,
+    token: &mut Token,
+    handles: &mut Vec<Handle>,
+    lane: usize,
+)
     requires table { token.old.table_id ≡ row.now.table_id }
     requires lane { lane < row.now.key.seats }
     requires words { row.now.table_id.words ≡ 8 * row.now.key.seats }
@@ -90,7 +96,7 @@ fn deal_anew(row: &Row, token: &mut Token, handles: &mut Vec<Handle>, lane: usiz
 }
 
 /// Takes the handles of all lanes.
-pub(crate) fn gather_all<R: Wait>(
+pub(crate) fn take_all_handles<R: Wait>(
     rt: &R,
     row: &Row,
     token: &mut Token,
@@ -113,7 +119,7 @@ pub(crate) fn gather_all<R: Wait>(
 {
     let mut handles = Vec::with_capacity(alloc, seats)?;
     for lane in 0..seats {
-        gather(rt, row, token, &mut handles, lane);
+        take_handle(rt, row, token, &mut handles, lane);
     }
     Ok(handles)
 }
@@ -234,7 +240,7 @@ fn renew_all<R: Wait>(
     ensures anew { OnOk result (token.new.me.0.map.chain.shape ≡ shape) }
     ensures full { result ≡ Err renew_fault.Full → HaveTooMany shape handles.items }
 {
-    let (handles, renewed) = parted_anew(rt, hall.alloc, handles, shape);
+    let (handles, renewed) = renew_handles(rt, hall.alloc, handles, shape);
     hall.renewals
         .fetch_add(u64::from(renewed.is_ok()), Ordering::SeqCst);
     deal_renewed(&hall.table.shared, token, handles);
@@ -307,7 +313,7 @@ pub(crate) fn renew_through<R: Wait>(
     ensures called { HasCalledIn own token.old.me.0 token.new.me.0 [] }
 {
     let row = &hall.table.shared;
-    let handles = gather_all(rt, row, token, hall.alloc, hall.table.slot_count())?;
+    let handles = take_all_handles(rt, row, token, hall.alloc, hall.table.slot_count())?;
     if hall.renewals.load(Ordering::SeqCst) != renewals {
         deal_all(row, token, handles);
         return Ok(());
@@ -340,7 +346,8 @@ pub(crate) fn write_or_renew<R: Wait>(
         (call.Write key want.now change.now) result }
 {
     let row = &hall.table.shared;
-    let Ok(mut handles) = gather_all(rt, row, token, hall.alloc, hall.table.slot_count()) else {
+    let Ok(mut handles) = take_all_handles(rt, row, token, hall.alloc, hall.table.slot_count())
+    else {
         return Err(WriteFault::OutOfMemory);
     };
     let reply = write_by(&mut handles, own, key, want, change);

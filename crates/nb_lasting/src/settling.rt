@@ -9,7 +9,7 @@ ghost use Rattle.nb_lasting.specs.Renewal.{HoldsBelow, IsIdleToken};
 ghost use Rattle.nb_lasting.specs.Settling.{CanSettle, HasLent};
 ghost use Rattle.nb_lasting.specs.Shared.{FitsLanes};
 
-use crate::closing::gather_from;
+use crate::closing::take_handle_as_guest;
 use crate::gathered::counted;
 use crate::guest::Guest;
 use crate::hall::Hall;
@@ -38,7 +38,7 @@ impl Guest {
             handles.new.items }
     {
         let own = hand_on(row, &mut self.token);
-        gather_from(rt, row, token, handles, own, self.lane);
+        take_handle_as_guest(rt, row, token, handles, own, self.lane);
         let own = hand_on(row, token);
         become_guest(row, &mut self.token, own);
     }
@@ -90,7 +90,7 @@ fn give_last(row: &Row, token: &mut Token, handles: &mut Vec<Handle>, lane: usiz
 }
 
 /// Takes the handles of all guests' lanes.
-fn gather_lanes<R: Wait>(
+fn lend_all<R: Wait>(
     rt: &R,
     row: &Row,
     token: &mut Token,
@@ -156,7 +156,7 @@ pub(crate) fn settle_guests<R: Wait>(
     ensures kept { OnErr result (guests.new ≡ guests.old) }
 {
     let row = &hall.table.shared;
-    let handles = gather_lanes(rt, row, token, hall.alloc, guests)?;
+    let handles = lend_all(rt, row, token, hall.alloc, guests)?;
     let (handles, size) = counted(rt, hall.alloc, handles);
     match size {
         Ok(size) => {

@@ -20,9 +20,9 @@ counted-handles-requires g c =
     let few : c.slot_count-seats.result ≤ 256 =
     omega (arith, c.slot_count-seats.ensures, c.args.hall.now.slots, c.args.hall.now.few) in
     record {
-      single = still-single c.slot_count-seats.result c.gather_all.new.token.me
+      single = still-single c.slot_count-seats.result c.take_all_handles.new.token.me
           c.in_ok-handles.handles.items some few
-          (held-still c.slot_count-seats.result c.gather_all.new.token.me
+          (held-still c.slot_count-seats.result c.take_all_handles.new.token.me
           c.in_ok-handles.handles.items
           c.in_ok-handles.ensures.holds);
     }
@@ -30,7 +30,7 @@ counted-handles-requires g c =
 pub all_home-requires-clause-holds : goal.all_home-requires-clause-holds
 all_home-requires-clause-holds g c =
     let n = c.slot_count-seats.result in
-    let me = c.gather_all.new.token.me in
+    let me = c.take_all_handles.new.token.me in
     let before = c.in_ok-handles.handles.items in
     let after = c.counted-handles.result.0.items in
     let holds = held-still n me before c.in_ok-handles.ensures.holds in
@@ -44,13 +44,13 @@ all_home-requires-clause-holds g c =
     c.counted-handles.ensures).0 in (
       log_of (still.know c.args.lane),
       can-come-home n me before after some few holds still c.args.lane
-          (c.gather_all.ensures.guest.guest ∙ c.requires.idle.guest) below,
+          (c.take_all_handles.ensures.guest.guest ∙ c.requires.idle.guest) below,
     )
 
 pub returns-in-Ok-clause-called : goal.returns-in-Ok-clause-called
 returns-in-Ok-clause-called g c =
     let n = c.slot_count-seats.result in
-    let me = c.gather_all.new.token.me in
+    let me = c.take_all_handles.new.token.me in
     let before = c.in_ok-handles.handles.items in
     let after = c.counted-handles.result.0.items in
     let holds = held-still n me before c.in_ok-handles.ensures.holds in
@@ -63,13 +63,13 @@ returns-in-Ok-clause-called g c =
     let still = (still-by n me before after some few holds c.counted-handles.result.1
     c.counted-handles.ensures).0 in
     called-home n me before after some few holds still c.args.lane
-    (c.gather_all.ensures.guest.guest ∙ c.requires.idle.guest) below c.args.token.now.me.0
-    c.gather_all.ensures.guest.seen c.all_home.new.token.me.0 c.all_home.ensures.seen
+    (c.take_all_handles.ensures.guest.guest ∙ c.requires.idle.guest) below c.args.token.now.me.0
+    c.take_all_handles.ensures.guest.seen c.all_home.new.token.me.0 c.all_home.ensures.seen
 
 pub returns-in-Ok-clause-size : goal.returns-in-Ok-clause-size
 returns-in-Ok-clause-size g c =
     let n = c.slot_count-seats.result in
-    let me = c.gather_all.new.token.me in
+    let me = c.take_all_handles.new.token.me in
     let before = c.in_ok-handles.handles.items in
     let after = c.counted-handles.result.0.items in
     let holds = held-still n me before c.in_ok-handles.ensures.holds in
@@ -80,14 +80,14 @@ returns-in-Ok-clause-size g c =
     let below : c.args.lane < c.slot_count-seats.result =
     omega (arith, c.slot_count-seats.ensures, c.args.hall.now.slots, c.requires.lane) in
     size-home n me before after some few holds c.counted-handles.result.1 c.counted-handles.ensures
-    c.in-Ok.size c.in-Ok.is c.args.lane (c.gather_all.ensures.guest.guest
+    c.in-Ok.size c.in-Ok.is c.args.lane (c.take_all_handles.ensures.guest.guest
     ∙ c.requires.idle.guest) below
     c.all_home.new.token.me.0 c.all_home.ensures.seen
 
 pub returns-in-Err-clause-called : goal.returns-in-Err-clause-called
 returns-in-Err-clause-called g c =
     let n = c.slot_count-seats.result in
-    let me = c.gather_all.new.token.me in
+    let me = c.take_all_handles.new.token.me in
     let before = c.in_ok-handles.handles.items in
     let after = c.counted-handles.result.0.items in
     let holds = held-still n me before c.in_ok-handles.ensures.holds in
@@ -100,8 +100,8 @@ returns-in-Err-clause-called g c =
     let still = (still-by n me before after some few holds c.counted-handles.result.1
     c.counted-handles.ensures).0 in
     called-home n me before after some few holds still c.args.lane
-    (c.gather_all.ensures.guest.guest ∙ c.requires.idle.guest) below c.args.token.now.me.0
-    c.gather_all.ensures.guest.seen c.all_home.new.token.me.0 c.all_home.ensures.seen
+    (c.take_all_handles.ensures.guest.guest ∙ c.requires.idle.guest) below c.args.token.now.me.0
+    c.take_all_handles.ensures.guest.seen c.all_home.new.token.me.0 c.all_home.ensures.seen
 
 pub returns-in_err-handles-clause-round : goal.returns-in_err-handles-clause-round
 returns-in_err-handles-clause-round g c =
@@ -110,7 +110,7 @@ returns-in_err-handles-clause-round g c =
 pub returns-in-Ok-clause-round : goal.returns-in-Ok-clause-round
 returns-in-Ok-clause-round g c =
     let n = c.slot_count-seats.result in
-    let me = c.gather_all.new.token.me in
+    let me = c.take_all_handles.new.token.me in
     let before = c.in_ok-handles.handles.items in
     let after = c.counted-handles.result.0.items in
     let holds = held-still n me before c.in_ok-handles.ensures.holds in
@@ -124,9 +124,9 @@ returns-in-Ok-clause-round g c =
     c.counted-handles.ensures).0 in
     inr (
       c.in_ok-handles.handles.items,
-      c.gather_all.new.token.me.0.account,
+      c.take_all_handles.new.token.me.0.account,
       taken-all (hall_of c.args.hall.now) c.slot_count-seats.result c.args.token.now.me.0.account
-          c.gather_all.new.token.me c.in_ok-handles.handles.items
+          c.take_all_handles.new.token.me c.in_ok-handles.handles.items
           (c.slot_count-seats.ensures ∙ c.args.hall.now.slots) c.in_ok-handles.ensures.holds
           c.in_ok-handles.ensures.taken,
       back-seen c.args.lane n me before c.all_home.new.token.me.0.account below
@@ -138,7 +138,7 @@ returns-in-Ok-clause-round g c =
 pub returns-in-Err-clause-round : goal.returns-in-Err-clause-round
 returns-in-Err-clause-round g c =
     let n = c.slot_count-seats.result in
-    let me = c.gather_all.new.token.me in
+    let me = c.take_all_handles.new.token.me in
     let before = c.in_ok-handles.handles.items in
     let after = c.counted-handles.result.0.items in
     let holds = held-still n me before c.in_ok-handles.ensures.holds in
@@ -152,9 +152,9 @@ returns-in-Err-clause-round g c =
     c.counted-handles.ensures).0 in
     inr (
       c.in_ok-handles.handles.items,
-      c.gather_all.new.token.me.0.account,
+      c.take_all_handles.new.token.me.0.account,
       taken-all (hall_of c.args.hall.now) c.slot_count-seats.result c.args.token.now.me.0.account
-          c.gather_all.new.token.me c.in_ok-handles.handles.items
+          c.take_all_handles.new.token.me c.in_ok-handles.handles.items
           (c.slot_count-seats.ensures ∙ c.args.hall.now.slots) c.in_ok-handles.ensures.holds
           c.in_ok-handles.ensures.taken,
       back-seen c.args.lane n me before c.all_home.new.token.me.0.account below
@@ -171,9 +171,9 @@ returns-in-Ok-clause-counted g c =
     (ap (λ hs. slice_get hs c.args.lane) (sym is.parted) ∙ home.1) in
     record {
       handles = c.in_ok-handles.handles.items;
-      then = c.gather_all.new.token.me.0.account;
+      then = c.take_all_handles.new.token.me.0.account;
       taken = taken-all (hall_of c.args.hall.now) c.slot_count-seats.result
-          c.args.token.now.me.0.account c.gather_all.new.token.me c.in_ok-handles.handles.items
+          c.args.token.now.me.0.account c.take_all_handles.new.token.me c.in_ok-handles.handles.items
           (c.slot_count-seats.ensures ∙ c.args.hall.now.slots) c.in_ok-handles.ensures.holds
           c.in_ok-handles.ensures.taken;
       counted = is.joined.map;

@@ -11,23 +11,23 @@ use Rattle.nb_lasting.proofs.renewing.renew_through.Goals as goal
 
 pub deal_all-requires-clause-holds : goal.deal_all-requires-clause-holds
 deal_all-requires-clause-holds g c =
-    as-held c.slot_count.result c.gather_all.new.token.me c.in_ok-handles.handles.items
+    as-held c.slot_count.result c.take_all_handles.new.token.me c.in_ok-handles.handles.items
     c.in_ok-handles.ensures.holds
 
 pub renew_counted-requires-clause-holds : goal.renew_counted-requires-clause-holds
 renew_counted-requires-clause-holds g c =
-    subst (λ n. HoldsStill n c.gather_all.new.token.me c.in_ok-handles.handles.items)
+    subst (λ n. HoldsStill n c.take_all_handles.new.token.me c.in_ok-handles.handles.items)
     (c.slot_count.ensures ∙ c.args.hall.now.slots)
-    (held-still c.slot_count.result c.gather_all.new.token.me c.in_ok-handles.handles.items
+    (held-still c.slot_count.result c.take_all_handles.new.token.me c.in_ok-handles.handles.items
     c.in_ok-handles.ensures.holds)
 
 pub returns-then-load-renewals-clause-round : goal.returns-then-load-renewals-clause-round
 returns-then-load-renewals-clause-round g c =
     inr (
       c.in_ok-handles.handles.items,
-      c.gather_all.new.token.me.0.account,
+      c.take_all_handles.new.token.me.0.account,
       taken-all (hall_of c.args.hall.now) c.slot_count.result c.args.token.now.me.0.account
-          c.gather_all.new.token.me c.in_ok-handles.handles.items
+          c.take_all_handles.new.token.me c.in_ok-handles.handles.items
           (c.slot_count.ensures ∙ c.args.hall.now.slots) c.in_ok-handles.ensures.holds
           c.in_ok-handles.ensures.taken,
       inl (inl c.deal_all.ensures.account),
@@ -37,13 +37,13 @@ pub returns-clause-round : goal.returns-clause-round
 returns-clause-round g c =
     inr (
       c.in_ok-handles.handles.items,
-      c.gather_all.new.token.me.0.account,
+      c.take_all_handles.new.token.me.0.account,
       taken-all (hall_of c.args.hall.now) c.slot_count.result c.args.token.now.me.0.account
-          c.gather_all.new.token.me c.in_ok-handles.handles.items
+          c.take_all_handles.new.token.me c.in_ok-handles.handles.items
           (c.slot_count.ensures ∙ c.args.hall.now.slots) c.in_ok-handles.ensures.holds
           c.in_ok-handles.ensures.taken,
       back-by c.renew_counted.result (hall_of c.args.hall.now) c.args.own c.slot_count.result
-          c.gather_all.new.token.me c.in_ok-handles.handles.items
+          c.take_all_handles.new.token.me c.in_ok-handles.handles.items
           c.renew_counted.new.token.me.0.account
           (omega (arith, c.slot_count.ensures, c.args.hall.now.slots, c.requires.own))
           c.in_ok-handles.ensures.holds c.renew_counted.ensures.made

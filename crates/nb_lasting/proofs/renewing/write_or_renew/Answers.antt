@@ -20,7 +20,7 @@ use Rattle.nb_lasting.proofs.renewing.write_or_renew.Goals as goal
 pub renew_counted-requires-clause-holds : goal.renew_counted-requires-clause-holds
 renew_counted-requires-clause-holds g c =
     let n = c.slot_count.result in
-    let me = c.gather_all.new.token.me in
+    let me = c.take_all_handles.new.token.me in
     let before = c.in-Ok.handles.items in
     let after = c.write_by-reply.new.handles.items in
     let call = Write c.args.key c.args.want.now c.args.change.now in
@@ -28,7 +28,7 @@ renew_counted-requires-clause-holds g c =
     let holds = c.in-Ok.ensures.holds in
     let some : 1 ≤ c.slot_count.result =
     omega (arith, c.slot_count.ensures, c.args.hall.now.slots, c.args.hall.now.some) in
-    let guest = c.gather_all.ensures.guest.guest ∙ c.requires.idle.guest in
+    let guest = c.take_all_handles.ensures.guest.guest ∙ c.requires.idle.guest in
     let below : c.args.own < c.slot_count.result =
     omega (arith, c.slot_count.ensures, c.args.hall.now.slots, c.requires.own) in
     let wrote = c.write_by-reply.ensures in
@@ -40,7 +40,7 @@ renew_counted-requires-clause-holds g c =
 pub returns-in_err-renew_counted-clause-tried : goal.returns-in_err-renew_counted-clause-tried
 returns-in_err-renew_counted-clause-tried g c =
     let n = c.slot_count.result in
-    let me = c.gather_all.new.token.me in
+    let me = c.take_all_handles.new.token.me in
     let before = c.in-Ok.handles.items in
     let after = c.write_by-reply.new.handles.items in
     let call = Write c.args.key c.args.want.now c.args.change.now in
@@ -48,7 +48,7 @@ returns-in_err-renew_counted-clause-tried g c =
     let holds = c.in-Ok.ensures.holds in
     let some : 1 ≤ c.slot_count.result =
     omega (arith, c.slot_count.ensures, c.args.hall.now.slots, c.args.hall.now.some) in
-    let guest = c.gather_all.ensures.guest.guest ∙ c.requires.idle.guest in
+    let guest = c.take_all_handles.ensures.guest.guest ∙ c.requires.idle.guest in
     let below : c.args.own < c.slot_count.result =
     omega (arith, c.slot_count.ensures, c.args.hall.now.slots, c.requires.own) in
     let wrote = c.write_by-reply.ensures in
@@ -56,7 +56,7 @@ returns-in_err-renew_counted-clause-tried g c =
     c.found_full.ensures.0 c.if-found_full.true in
     let old = c.args.token.now.me.0 in
     let then = c.renew_counted.new.token.me.0 in
-    let seen = c.gather_all.ensures.guest.seen in
+    let seen = c.take_all_handles.ensures.guest.seen in
     let fault = c.in_err-renew_counted.field-0.0 in
     let tried = refused-so c.args.own old then call after fault
     (called-from c.args.own old me.0 then [] seen c.renew_counted.ensures.called) c.requires.new_key
@@ -69,7 +69,7 @@ returns-in_err-renew_counted-clause-tried g c =
 pub all_home-requires-clause-holds : goal.all_home-requires-clause-holds
 all_home-requires-clause-holds g c =
     let n = c.slot_count.result in
-    let me = c.gather_all.new.token.me in
+    let me = c.take_all_handles.new.token.me in
     let before = c.in-Ok.handles.items in
     let after = c.write_by-reply.new.handles.items in
     let call = Write c.args.key c.args.want.now c.args.change.now in
@@ -77,7 +77,7 @@ all_home-requires-clause-holds g c =
     let holds = c.in-Ok.ensures.holds in
     let some : 1 ≤ c.slot_count.result =
     omega (arith, c.slot_count.ensures, c.args.hall.now.slots, c.args.hall.now.some) in
-    let guest = c.gather_all.ensures.guest.guest ∙ c.requires.idle.guest in
+    let guest = c.take_all_handles.ensures.guest.guest ∙ c.requires.idle.guest in
     let below : c.args.own < c.slot_count.result =
     omega (arith, c.slot_count.ensures, c.args.hall.now.slots, c.requires.own) in
     let wrote = c.write_by-reply.ensures in (
@@ -88,7 +88,7 @@ all_home-requires-clause-holds g c =
 pub returns-clause-tried : goal.returns-clause-tried
 returns-clause-tried g c =
     let n = c.slot_count.result in
-    let me = c.gather_all.new.token.me in
+    let me = c.take_all_handles.new.token.me in
     let before = c.in-Ok.handles.items in
     let after = c.write_by-reply.new.handles.items in
     let call = Write c.args.key c.args.want.now c.args.change.now in
@@ -96,7 +96,7 @@ returns-clause-tried g c =
     let holds = c.in-Ok.ensures.holds in
     let some : 1 ≤ c.slot_count.result =
     omega (arith, c.slot_count.ensures, c.args.hall.now.slots, c.args.hall.now.some) in
-    let guest = c.gather_all.ensures.guest.guest ∙ c.requires.idle.guest in
+    let guest = c.take_all_handles.ensures.guest.guest ∙ c.requires.idle.guest in
     let below : c.args.own < c.slot_count.result =
     omega (arith, c.slot_count.ensures, c.args.hall.now.slots, c.requires.own) in
     let wrote = c.write_by-reply.ensures in
@@ -104,7 +104,7 @@ returns-clause-tried g c =
     (sym c.tried.ensures)
     (tried-so c.args.own c.args.token.now.me.0 c.all_home.new.token.me.0 call result
     (wrote-since n c.args.own me before after call result holds some guest below wrote
-    c.args.token.now.me.0 c.gather_all.ensures.guest.seen c.all_home.new.token.me.0
+    c.args.token.now.me.0 c.take_all_handles.ensures.guest.seen c.all_home.new.token.me.0
     c.all_home.ensures.seen))
 
 pub returns-in_default-clause-on : goal.returns-in_default-clause-on
@@ -122,11 +122,11 @@ returns-in_err-renew_counted-clause-on g c =
     c.from_residual.ensures.1)
     (inr (
       c.in-Ok.handles.items,
-      c.gather_all.new.token.me.0.account,
-      taken-all (hall_of c.args.hall.now) c.slot_count.result old c.gather_all.new.token.me
+      c.take_all_handles.new.token.me.0.account,
+      taken-all (hall_of c.args.hall.now) c.slot_count.result old c.take_all_handles.new.token.me
           c.in-Ok.handles.items (c.slot_count.ensures ∙ c.args.hall.now.slots)
           c.in-Ok.ensures.holds c.in-Ok.ensures.taken,
-      home-still c.args.own c.slot_count.result c.gather_all.new.token.me c.in-Ok.handles.items new
+      home-still c.args.own c.slot_count.result c.take_all_handles.new.token.me c.in-Ok.handles.items new
           (omega (arith, c.slot_count.ensures, c.args.hall.now.slots, c.requires.own))
           c.in-Ok.ensures.holds c.in_err-renew_counted.ensures.still,
     ))
@@ -135,8 +135,8 @@ pub returns-then-found_full-clause-on : goal.returns-then-found_full-clause-on
 returns-then-found_full-clause-on g c =
     let old = c.args.token.now.me.0.account in
     goes-anew (Write c.args.key c.args.want.now c.args.change.now) c.args.own
-    (hall_of c.args.hall.now) old c.in-Ok.handles.items c.gather_all.new.token.me.0.account
-    (taken-all (hall_of c.args.hall.now) c.slot_count.result old c.gather_all.new.token.me
+    (hall_of c.args.hall.now) old c.in-Ok.handles.items c.take_all_handles.new.token.me.0.account
+    (taken-all (hall_of c.args.hall.now) c.slot_count.result old c.take_all_handles.new.token.me
     c.in-Ok.handles.items (c.slot_count.ensures ∙ c.args.hall.now.slots) c.in-Ok.ensures.holds
     c.in-Ok.ensures.taken)
     c.renew_counted.new.token.me.0.account c.in_ok-renew_counted.ensures.made
@@ -149,8 +149,8 @@ returns-clause-on g c =
     let new = c.all_home.new.token.me.0.account in
     subst (HasTriedOnAs call c.args.own of old new) (sym c.tried.ensures)
     (goes-with-all call c.args.own of old c.in-Ok.handles.items
-    c.gather_all.new.token.me.0.account
-    (taken-all of c.slot_count.result old c.gather_all.new.token.me c.in-Ok.handles.items
+    c.take_all_handles.new.token.me.0.account
+    (taken-all of c.slot_count.result old c.take_all_handles.new.token.me c.in-Ok.handles.items
     (c.slot_count.ensures ∙ c.args.hall.now.slots) c.in-Ok.ensures.holds c.in-Ok.ensures.taken)
     c.write_by-reply.new.handles.items new c.write_by-reply.result c.write_by-reply.ensures
     c.all_home.ensures.home (λ full.

@@ -16,15 +16,15 @@ counted-handles-requires g c =
     let some : 1 ≤ n = omega (arith, c.requires.all.count, c.args.hall.now.some) in
     let few : n ≤ 256 = omega (arith, c.requires.all.count, c.args.hall.now.few) in
     record {
-      single = still-single n c.gather_lanes.new.token.me c.in_ok-handles.handles.items some few
-          (held-still n c.gather_lanes.new.token.me c.in_ok-handles.handles.items
+      single = still-single n c.lend_all.new.token.me c.in_ok-handles.handles.items some few
+          (held-still n c.lend_all.new.token.me c.in_ok-handles.handles.items
           c.in_ok-handles.ensures.gathered.holds);
     }
 
 pub settle_all-requires-clause-can : goal.settle_all-requires-clause-can
 settle_all-requires-clause-can g c =
     let n = length c.args.guests.now in
-    let me = c.gather_lanes.new.token.me in
+    let me = c.lend_all.new.token.me in
     let before = c.in_ok-handles.handles.items in
     let after = c.counted-handles.result.0.items in
     let some : 1 ≤ n = omega (arith, c.requires.all.count, c.args.hall.now.some) in
@@ -45,7 +45,7 @@ settle_all-requires-clause-can g c =
 pub deal_all-requires-clause-holds : goal.deal_all-requires-clause-holds
 deal_all-requires-clause-holds g c =
     let n = length c.args.guests.now in
-    let me = c.gather_lanes.new.token.me in
+    let me = c.lend_all.new.token.me in
     let before = c.in_ok-handles.handles.items in
     let after = c.counted-handles.result.0.items in
     let some : 1 ≤ n = omega (arith, c.requires.all.count, c.args.hall.now.some) in
@@ -58,7 +58,7 @@ deal_all-requires-clause-holds g c =
 pub returns-in-Ok-clause-settled : goal.returns-in-Ok-clause-settled
 returns-in-Ok-clause-settled g c =
     let n = length c.args.guests.now in
-    let me = c.gather_lanes.new.token.me in
+    let me = c.lend_all.new.token.me in
     let before = c.in_ok-handles.handles.items in
     let after = c.counted-handles.result.0.items in
     let some : 1 ≤ n = omega (arith, c.requires.all.count, c.args.hall.now.some) in

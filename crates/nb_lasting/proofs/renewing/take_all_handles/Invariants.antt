@@ -2,7 +2,7 @@ use Rattle.std.proofs.Common.{◌≡◌, ◌≤◌, length, vec_capacity}
 use Rattle.nb_lasting.specs.Renewal.{HoldsBelow, IsSameGuest}
 use Rattle.nb_lasting.specs.Shared.{FitsLanes}
 use Rattle.nb_lasting.specs.Visits.{took_all}
-use Rattle.nb_lasting.proofs.renewing.gather_all.Given as goal
+use Rattle.nb_lasting.proofs.renewing.take_all_handles.Given as goal
 
 abbrev pub invariant-loop-lane : goal.invariant-loop-lane
 invariant-loop-lane g l = record {

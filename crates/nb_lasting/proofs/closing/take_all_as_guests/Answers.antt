@@ -4,7 +4,7 @@ use Rattle.std.specs.Vec.Iter.{into_iter_items}
 use Rattle.nb_lasting.specs.Holding.{IsIdleGuest}
 use Rattle.nb_lasting.proofs.Closed.{all-come, more-come, next-number, none-gathered}
 use Rattle.nb_lasting.proofs.Dealt.{holds-none}
-use Rattle.nb_lasting.proofs.closing.gather_guests.Goals as goal
+use Rattle.nb_lasting.proofs.closing.take_all_as_guests.Goals as goal
 
 pub loop-guest-init : goal.loop-guest-init
 loop-guest-init g c = (
@@ -22,8 +22,8 @@ loop-guest-init g c = (
   },
 )
 
-pub gather_from-requires-clause-guest : goal.gather_from-requires-clause-guest
-gather_from-requires-clause-guest g c =
+pub take_handle_as_guest-requires-clause-guest : goal.take_handle_as_guest-requires-clause-guest
+take_handle_as_guest-requires-clause-guest g c =
     subst (λ n. IsIdleGuest n c.into_token.result.me)
     (next-number c.args.guests.items (into_iter_items c.loop-guest.guest-iterator)
     (into_iter_items c.next.new.self) c.in-Some.guest c.loop-guest.token.me
@@ -42,15 +42,15 @@ loop-guest-preserved g c =
     omega (arith, c.len-lane.ensures, c.loop-guest.handles.ok) in (
       tt,
       tt,
-      c.gather_from.ensures.table ∙ c.loop-guest.invariant.2,
-      omega (arith, c.loop-guest.invariant.3, c.gather_from.ensures.room),
-      (λ some. c.gather_from.ensures.seated),
+      c.take_handle_as_guest.ensures.table ∙ c.loop-guest.invariant.2,
+      omega (arith, c.loop-guest.invariant.3, c.take_handle_as_guest.ensures.room),
+      (λ some. c.take_handle_as_guest.ensures.seated),
       more-come c.args.guests.items (into_iter_items c.loop-guest.guest-iterator)
           (into_iter_items c.next.new.self) c.in-Some.guest c.into_token.result.me.0.seen
-          c.len-lane.result c.loop-guest.token.me c.gather_from.new.token.me
-          c.loop-guest.handles.items c.gather_from.new.handles.items c.loop-guest.invariant.5
+          c.len-lane.result c.loop-guest.token.me c.take_handle_as_guest.new.token.me
+          c.loop-guest.handles.items c.take_handle_as_guest.new.handles.items c.loop-guest.invariant.5
           c.in-Some.ensures.steps.0 here number c.into_token.ensures.seen
-          c.gather_from.ensures.gathered,
+          c.take_handle_as_guest.ensures.gathered,
     )
 
 pub returns-clause-gathered : goal.returns-clause-gathered

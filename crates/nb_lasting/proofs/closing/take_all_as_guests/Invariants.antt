@@ -2,7 +2,7 @@ use Rattle.std.proofs.Common.{◌≡◌, ◌≤◌, length, vec_capacity}
 use Rattle.std.specs.Vec.Iter.{into_iter_items}
 use Rattle.nb_lasting.specs.Closing.{HaveComeTo}
 use Rattle.nb_lasting.specs.Shared.{FitsLanes}
-use Rattle.nb_lasting.proofs.closing.gather_guests.Given as goal
+use Rattle.nb_lasting.proofs.closing.take_all_as_guests.Given as goal
 
 abbrev pub invariant-loop-guest : goal.invariant-loop-guest
 invariant-loop-guest g l =

@@ -7,7 +7,7 @@ use Rattle.nb_lasting.specs.Visits.{took}
 use Rattle.nb_lasting.specs.declared.shared.LaneView.{LaneView}
 use Rattle.nb_lasting.proofs.Calling.{slot-rest, taken-is}
 use Rattle.nb_lasting.proofs.Dealt.{gathered}
-use Rattle.nb_lasting.proofs.renewing.gather.Goals as goal
+use Rattle.nb_lasting.proofs.renewing.take_handle.Goals as goal
 
 pub exchange-requires : goal.exchange-requires
 exchange-requires g c = (

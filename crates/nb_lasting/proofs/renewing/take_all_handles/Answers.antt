@@ -2,7 +2,7 @@ use Rattle.std.proofs.Common.{◌∙◌, ap, length, refl, sym, arith}
 use Rattle.nb_lasting.proofs.Dealt.{holds-none}
 use Rattle.nb_lasting.proofs.Grown.{took-snoc}
 use Rattle.nb_lasting.specs.Visits.{took, took_all}
-use Rattle.nb_lasting.proofs.renewing.gather_all.Goals as goal
+use Rattle.nb_lasting.proofs.renewing.take_all_handles.Goals as goal
 
 pub loop-lane-init : goal.loop-lane-init
 loop-lane-init g c = record {
@@ -20,7 +20,7 @@ loop-lane-init g c = record {
 pub loop-lane-preserved : goal.loop-lane-preserved
 loop-lane-preserved g c =
     let was = c.loop-lane.invariant in
-    let is = c.gather.ensures in
+    let is = c.take_handle.ensures in
     record {
       table = is.table ∙ was.table;
       guest = record {

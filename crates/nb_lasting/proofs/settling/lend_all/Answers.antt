@@ -7,7 +7,7 @@ use Rattle.nb_lasting.specs.Renewal.{HoldsBelow}
 use Rattle.nb_lasting.proofs.Closed.{all-come, none-gathered}
 use Rattle.nb_lasting.proofs.Dealt.{holds-none}
 use Rattle.nb_lasting.proofs.Settled.{lent-count, lent-more}
-use Rattle.nb_lasting.proofs.settling.gather_lanes.Goals as goal
+use Rattle.nb_lasting.proofs.settling.lend_all.Goals as goal
 
 pub loop-i-init : goal.loop-i-init
 loop-i-init g c = record {

@@ -1,5 +1,5 @@
 use Rattle.std.proofs.Common.{◌≡◌}
-use Rattle.nb_lasting.proofs.gathered.parted.Given as goal
+use Rattle.nb_lasting.proofs.gathered.split_handle.Given as goal
 
 abbrev pub invariant-loop : goal.invariant-loop
 invariant-loop g l =

@@ -1,6 +1,6 @@
 use Rattle.std.proofs.Common.{◌≡◌, ◌∙◌, ◌∷◌, ap, sym}
 use Rattle.nb_lasting.proofs.Joined.{few-seats, first-out, joined-seats, never-both}
-use Rattle.nb_lasting.proofs.gathered.joined.Goals as goal
+use Rattle.nb_lasting.proofs.gathered.join_handles.Goals as goal
 
 pub unreachable-requires : goal.unreachable-requires
 unreachable-requires c =

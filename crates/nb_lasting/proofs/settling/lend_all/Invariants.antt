@@ -1,7 +1,7 @@
 use Rattle.std.proofs.Common.{◌≡◌, ◌≤◌, drop, length, vec_capacity}
 use Rattle.nb_lasting.specs.Closing.{HaveComeTo}
 use Rattle.nb_lasting.specs.Shared.{FitsLanes}
-use Rattle.nb_lasting.proofs.settling.gather_lanes.Given as goal
+use Rattle.nb_lasting.proofs.settling.lend_all.Given as goal
 
 abbrev pub invariant-loop-i : goal.invariant-loop-i
 invariant-loop-i g l = record {

@@ -3,7 +3,7 @@ use Rattle.atomic_table.specs.Table.{rest}
 use Rattle.nb_lasting.specs.Closing.{HasGathered}
 use Rattle.nb_lasting.proofs.Calling.{slot-rest}
 use Rattle.nb_lasting.proofs.Dealt.{gathered-from}
-use Rattle.nb_lasting.proofs.closing.gather_from.Goals as goal
+use Rattle.nb_lasting.proofs.closing.take_handle_as_guest.Goals as goal
 
 pub exchange-requires : goal.exchange-requires
 exchange-requires g c = (
