@@ -24,7 +24,8 @@ use Rattle.nb_map.specs.declared.faults.PutFault.{PutFault}
 use Rattle.nb_lasting.proofs.Epochs.{goes_on, leaves, replays}
 use Rattle.nb_lasting.proofs.Sharing.{known-of, log-as-events}
 use Rattle.nb_lasting.specs.Epochs.{HasGoneOnBy}
-use Rattle.nb_lasting.specs.Holding.{CanGive, HasCalledIn, HasWrittenIn, IsIdleGuest, IsJustIn}
+use Rattle.nb_lasting.proofs.Giving.{CanGive}
+use Rattle.nb_lasting.specs.Holding.{HasCalledIn, HasWrittenIn, IsIdleGuest, IsJustIn}
 use Rattle.nb_lasting.specs.Shared.{EpochIn, HasGiven, HasTaken, KnowsIn, as_events, known_in, known_of, rest_outs, account_in}
 use Rattle.nb_lasting.specs.Lasting.{HasSlots}
 use Rattle.nb_lasting.specs.Visits.{HasVisited, gave}

@@ -14,7 +14,8 @@ use Rattle.nb_lasting.proofs.Sharing.{Same, anew-log, current_here, decided, kno
 use Rattle.nb_lasting.proofs.Epochs.{goes_on}
 use Rattle.nb_lasting.specs.Epochs.{HasGoneOnBy}
 use Rattle.nb_lasting.specs.Closing.{HasGathered}
-use Rattle.nb_lasting.specs.Holding.{CanDeal, CanGive, CanRenew, IsIdleGuest}
+use Rattle.nb_lasting.proofs.Giving.{CanDeal, CanGive, CanRenew}
+use Rattle.nb_lasting.specs.Holding.{IsIdleGuest}
 use Rattle.nb_map.specs.declared.faults.RenewFault.{RenewFault}
 use Rattle.nb_lasting.proofs.Refused.{renewed-all}
 use Rattle.nb_lasting.proofs.Renewed.{all-from, at-all}

@@ -14,6 +14,7 @@ pub mod Calling
 pub mod Counted
 pub mod Written
 pub mod Homes
+pub mod Giving
 pub mod Going
 pub mod Logged
 pub mod Sizes

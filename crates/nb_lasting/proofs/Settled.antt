@@ -24,7 +24,7 @@ use Rattle.nb_lasting.proofs.Visiting.{goes-on-to, one_log_of_guests, then-calle
 use Rattle.nb_lasting.specs.Closing.{HasGathered, HaveComeTo}
 use Rattle.nb_lasting.specs.Epochs.{HasGoneOnBy}
 use Rattle.nb_lasting.specs.Guests.{GoesOnTo, GuestHasCalled, GuestOf, GuestsHaveSettled, HaveCalled, OneLogSoFar, with_log}
-use Rattle.nb_lasting.specs.Holding.{CanGive}
+use Rattle.nb_lasting.proofs.Giving.{CanGive}
 use Rattle.nb_lasting.specs.Renewal.{AreHeld, AreStill, HoldsBelow, HoldsStill}
 use Rattle.nb_lasting.specs.Settling.{CanSettle, HasLent, KnowFrom}
 use Rattle.nb_lasting.specs.Shared.{FitsLanes, HasGiven, IsOfGuest, as_events, as_guest, account_in, guest_left, known_in, known_of}

@@ -1,17 +1,17 @@
--- What a token has to hold that gives a lane's handle back.
+-- When a lane's handle may be given back, and what a call through a lane promises.
+use mathlib.Core.Option.{none}
 use Rattle.std.specs.Prelude.{◌≡◌, ◌∷◌, ℕ, Err, None, Ok, Option, Result, Some, List, [], true}
-use Rattle.atomic_table.specs.Table.{Me}
+use Rattle.atomic_table.specs.Table.{Allows, Me, Step, step}
 use Rattle.nb_core.specs.Calls.{overflows}
 use Rattle.nb_core.specs.Log.{Entry, log_of, map_of_log}
 use Rattle.nb_core.specs.declared.calls.Call.{Call}
 use Rattle.nb_core.specs.declared.calls.Reply.{Reply}
-use Rattle.nb_core.specs.declared.events.Event.{Event}
 use Rattle.nb_map.specs.Handles.{HandleOf}
 use Rattle.nb_map.specs.declared.faults.PutFault.TheVariants as put_fault
 use Rattle.nb_map.specs.declared.faults.PutFault.{PutFault}
 use Rattle.nb_lasting.specs.Epochs.{HasGoneOnBy}
 use Rattle.nb_lasting.specs.Lasting.{IsNewKey, IsRefusedFor}
-use Rattle.nb_lasting.specs.Shared.{EpochIn, Holds, HoldsAnew, IsCurrent}
+use Rattle.nb_lasting.specs.Shared.{IsOneLog, word_of}
 use Rattle.nb_lasting.specs.Tries.{HasTriedOn, HasTriedAlone}
 use Rattle.nb_lasting.specs.Visits.{SharedOf}
 use Rattle.nb_lasting.specs.declared.faults.WriteFault.TheVariants as fault
@@ -20,28 +20,23 @@ use Rattle.nb_lasting.specs.declared.shared.Account.{Account}
 use Rattle.nb_lasting.specs.declared.shared.LaneView.{LaneView}
 use Rattle.nb_lasting.specs.declared.shared.Opened.{Opened}
 
--- a guest that has the handle of its own lane, whatever it has called
-pub record CanGive (lane : ℕ) (me : Me (Option HandleOf) LaneView) : Type 0 where
-  pub knew : List Event
-  pub whole : List Event
-  pub handle : HandleOf
-  pub holds : Holds lane knew whole handle me
-  pub guest : me.0.guest ≡ Some lane
+-- A lane's handle may be given back so, by a swap of the lane's word: whatever the table is then, its
+-- rule is kept.
+abbrev pub MayGive :
+    (then : Step (Option HandleOf) → Me (Option HandleOf) LaneView → ℕ
+    → Me (Option HandleOf) LaneView → Type 0)
+    → (p : Opened) → (slots lane id : ℕ) → Me (Option HandleOf) LaneView → Type 0
+MayGive then p slots lane id me =
+    Allows (IsOneLog p) slots id me (word_of lane) (λ _. 0)
+    (then (step slots (word_of lane) 0 0 none) me)
 
--- one that has a lane's handle, by which nothing was called
-pub record CanDeal (lane : ℕ) (me : Me (Option HandleOf) LaneView) : Type 0 where
-  pub knew : List Event
-  pub whole : List Event
-  pub handle : HandleOf
-  pub holds : Holds lane knew whole handle me
-  pub current : IsCurrent lane knew whole
-
--- one that has all lanes' handles, of a new map
-pub record CanRenew (p : Opened) (lane : ℕ) (me : Me (Option HandleOf) LaneView) : Type 0 where
-  pub knew : List Event
-  pub handle : HandleOf
-  pub next : EpochIn
-  pub holds : HoldsAnew p lane knew handle next me
+-- it was given back so, whatever the word was
+abbrev pub HasGivenBy :
+    (then : Step (Option HandleOf) → Me (Option HandleOf) LaneView → ℕ
+    → Me (Option HandleOf) LaneView → Type 0)
+    → (slots lane : ℕ) → (before after : Me (Option HandleOf) LaneView) → Type 0
+HasGivenBy then slots lane before after =
+    (found : ℕ) × then (step slots (word_of lane) 0 0 none) before found after
 
 -- ---- what a call through a lane promises
 

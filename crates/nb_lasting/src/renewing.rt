@@ -18,7 +18,7 @@ use crate::faults::{GrowFault, WriteFault};
 use crate::gathered::{counted, renew_handles, write_by};
 use crate::hall::Hall;
 use crate::shapes::{GREATEST, shape_for};
-use crate::shared::{Row, Token, give, give_anew, give_back, hold};
+use crate::shared::{Anew, Coming, Dealing, Row, Token, give_back, hold};
 use nb_core::{Change, Key, OutOfMemory, Reply, Shape, Want};
 use nb_map::{Handle, PutFault, RenewFault};
 use std::alloc::Global;
@@ -71,7 +71,7 @@ fn deal(row: &Row, token: &mut Token, handles: &mut Vec<Handle>, lane: usize)
         unreachable!();
     };
     row.exchange(token, lane, Some(handle));
-    give_back(row, token, lane);
+    give_back::<Dealing>(row, token, lane);
 }
 
 /// The same of the last lane of all, where the handles begin an epoch.
@@ -92,7 +92,7 @@ fn deal_anew(row: &Row, token: &mut Token, handles: &mut Vec<Handle>, lane: usiz
         unreachable!();
     };
     row.exchange(token, lane, Some(handle));
-    give_anew(row, token, lane);
+    give_back::<Anew>(row, token, lane);
 }
 
 /// Takes the handles of all lanes.
@@ -164,9 +164,9 @@ fn come_home(row: &Row, token: &mut Token, handles: &mut Vec<Handle>, lane: usiz
     };
     row.exchange(token, lane, Some(handle));
     if lane == own {
-        give(row, token, lane);
+        give_back::<Coming>(row, token, lane);
     } else {
-        give_back(row, token, lane);
+        give_back::<Dealing>(row, token, lane);
     }
 }
 

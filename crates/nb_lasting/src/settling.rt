@@ -14,7 +14,7 @@ use crate::gathered::counted;
 use crate::guest::Guest;
 use crate::hall::Hall;
 use crate::renewing::deal_all;
-use crate::shared::{Row, Token, become_guest, give, hand_on};
+use crate::shared::{Coming, Row, Token, become_guest, give_back, hand_on};
 use nb_core::OutOfMemory;
 use nb_map::Handle;
 use std::alloc::Global;
@@ -86,7 +86,7 @@ fn give_last(row: &Row, token: &mut Token, handles: &mut Vec<Handle>, lane: usiz
         unreachable!();
     };
     row.exchange(token, lane, Some(handle));
-    give(row, token, lane);
+    give_back::<Coming>(row, token, lane);
 }
 
 /// Takes the handles of all guests' lanes.

@@ -24,8 +24,8 @@
 //!
 //! What is left: no clause says how long a token waits for a lane.
 ghost use Rattle.std.specs.Prelude.{[], Some, ℕ, ◌≡◌, ◌≢◌, ◌*◌, ◌<◌, ◌≤◌, true, false};
-ghost use Rattle.nb_lasting.specs.Shared.{HasBegunAnew, HasDealt, HasGiven, HasTaken, FitsLanes, as_guest, dealer_left, guest_alone, guest_left, new_guest};
-ghost use Rattle.nb_lasting.specs.Holding.{CanDeal, CanGive, CanRenew};
+ghost use Rattle.nb_lasting.specs.Shared.{HasTaken, FitsLanes, as_guest, dealer_left, guest_alone, guest_left, new_guest};
+ghost use Rattle.nb_lasting.specs.Holding.{HasGivenBy, MayGive};
 
 use atomic_table::{Join, Play, Seat, Shared, Split, TableRule};
 use nb_core::Event;
@@ -223,47 +223,21 @@ pub(crate) fn hold<R: Wait>(rt: &R, row: &Row, token: &mut Token, lane: usize)
     unreachable!()
 }
 
-/// A guest gives its handle back.
-pub(crate) fn give(row: &Row, token: &mut Token, lane: usize)
+/// Gives a lane's handle back, as the play says, and wakes one that sleeps until it comes home.
+pub(crate) fn give_back<P: Play<Option<Handle>, LaneView>>(
+    row: &Row,
+    token: &mut Token,
+    lane: usize,
+)
     requires table { token.old.table_id ≡ row.now.table_id }
     requires lane { lane < row.now.key.seats }
     requires words { row.now.table_id.words ≡ 8 * row.now.key.seats }
     requires few { row.now.key.seats ≤ 256 }
-    requires holds { CanGive lane token.old.me }
+    requires may { MayGive P.then row.now.key row.now.table_id.slots lane token.old.id token.old.me }
     ensures table { token.new.table_id ≡ token.old.table_id }
-    ensures given { HasGiven token.old.me token.new.me }
+    ensures given { HasGivenBy P.then row.now.table_id.slots lane token.old.me token.new.me }
 {
-    if row.swap::<Coming>(token, SPACING * lane, 0) == AWAITED {
-        row.wake_one(SPACING * lane);
-    }
-}
-
-/// Gives a handle back after a renewal, of the map that the token knows.
-pub(crate) fn give_back(row: &Row, token: &mut Token, lane: usize)
-    requires table { token.old.table_id ≡ row.now.table_id }
-    requires lane { lane < row.now.key.seats }
-    requires words { row.now.table_id.words ≡ 8 * row.now.key.seats }
-    requires few { row.now.key.seats ≤ 256 }
-    requires holds { CanDeal lane token.old.me }
-    ensures table { token.new.table_id ≡ token.old.table_id }
-    ensures given { HasDealt token.old.me token.new.me }
-{
-    if row.swap::<Dealing>(token, SPACING * lane, 0) == AWAITED {
-        row.wake_one(SPACING * lane);
-    }
-}
-
-/// Gives the first handle of a new map back, while the token has all lanes.
-pub(crate) fn give_anew(row: &Row, token: &mut Token, lane: usize)
-    requires table { token.old.table_id ≡ row.now.table_id }
-    requires lane { lane < row.now.key.seats }
-    requires words { row.now.table_id.words ≡ 8 * row.now.key.seats }
-    requires few { row.now.key.seats ≤ 256 }
-    requires holds { CanRenew row.now.key lane token.old.me }
-    ensures table { token.new.table_id ≡ token.old.table_id }
-    ensures given { HasBegunAnew token.old.me token.new.me }
-{
-    if row.swap::<Anew>(token, SPACING * lane, 0) == AWAITED {
+    if row.swap::<P>(token, SPACING * lane, 0) == AWAITED {
         row.wake_one(SPACING * lane);
     }
 }

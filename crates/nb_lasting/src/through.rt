@@ -8,7 +8,7 @@ ghost use Rattle.nb_map.specs.Promises.{HasGot, HasWritten, replied_or_refused};
 ghost use Rattle.nb_lasting.specs.Holding.{HasCalledIn, HasWrittenIn, IsIdleGuest};
 ghost use Rattle.nb_lasting.specs.Visits.{HasVisited};
 
-use crate::shared::{Row, Token, give, hold};
+use crate::shared::{Coming, Row, Token, give_back, hold};
 use nb_core::{Change, Key, Num, Reply, Want};
 use nb_map::{Occupancy, PutFault};
 use std::sync::Wait;
@@ -39,7 +39,7 @@ pub(crate) fn get_through<R: Wait>(
         unreachable!();
     };
     let found = handle.get(key);
-    give(row, token, lane);
+    give_back::<Coming>(row, token, lane);
     found
 }
 
@@ -72,7 +72,7 @@ pub(crate) fn write_through<R: Wait>(
         unreachable!();
     };
     let reply = handle.put_if_match(key, *want, *change, u32::MAX);
-    give(row, token, lane);
+    give_back::<Coming>(row, token, lane);
     reply
 }
 
@@ -95,6 +95,6 @@ pub(crate) fn look_through<R: Wait>(rt: &R, row: &Row, token: &mut Token, lane: 
         unreachable!();
     };
     let found = handle.occupancy();
-    give(row, token, lane);
+    give_back::<Coming>(row, token, lane);
     found
 }

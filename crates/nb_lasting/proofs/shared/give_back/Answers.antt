@@ -1,12 +1,12 @@
 use Rattle.std.proofs.Common.{arith}
-use Rattle.nb_lasting.proofs.Sharing.{deal_allowed}
 use Rattle.nb_lasting.proofs.shared.give_back.Goals as goal
 
 pub swap-requires : goal.swap-requires
-swap-requires c =
-    let h = c.requires.holds in (
-      c.requires.table,
-      omega (arith, c.requires.lane, c.requires.words),
-      deal_allowed c.args.row.now.key c.args.row.now.table_id.slots c.args.token.now.id
-          c.args.token.now.me c.args.lane h.knew h.whole h.handle c.requires.lane h.holds h.current,
-    )
+swap-requires g c =
+    (c.requires.table, omega (arith, c.requires.lane, c.requires.words), c.requires.may)
+
+pub returns-then-swap-eq-AWAITED-clause-given : goal.returns-then-swap-eq-AWAITED-clause-given
+returns-then-swap-eq-AWAITED-clause-given g c = (c.swap.result, c.swap.ensures.2)
+
+pub returns-else-swap-eq-AWAITED-clause-given : goal.returns-else-swap-eq-AWAITED-clause-given
+returns-else-swap-eq-AWAITED-clause-given g c = (c.swap.result, c.swap.ensures.2)

@@ -4,6 +4,7 @@ use Rattle.nb_map.specs.Handles.{HandleOf, KeepsRest}
 use Rattle.nb_map.specs.Logs.{HasLogged}
 use Rattle.nb_map.specs.Promises.{HasGot}
 use Rattle.nb_lasting.proofs.Calling.{can-give, has-called, idle-again, slot-rest, taken-is, visited}
+use Rattle.nb_lasting.proofs.Giving.{may-give}
 use Rattle.nb_lasting.proofs.through.get_through.Goals as goal
 
 pub slot_mut-requires : goal.slot_mut-requires
@@ -16,17 +17,18 @@ slot_mut-requires g c = (
   ),
 )
 
-pub give-requires-clause-holds : goal.give-requires-clause-holds
-give-requires-clause-holds g c =
+pub give_back-requires-clause-may : goal.give_back-requires-clause-may
+give_back-requires-clause-may g c =
     let same = taken-is c.args.lane c.args.token.now.me c.hold.new.token.me c.hold.ensures.taken
     c.slot_mut.result.now c.in-Some.handle c.slot_mut.ensures.value c.in-Some.is in
-    can-give c.args.lane c.args.token.now.me c.hold.new.token.me c.hold.ensures.taken
+    may-give c.args.row.now.key c.args.row.now.table_id.slots c.args.lane _ _ c.requires.lane
+    (can-give c.args.lane c.args.token.now.me c.hold.new.token.me c.hold.ensures.taken
     c.get-found.new.self
     ((Get c.args.key, record { before = c.get-found.result; matched = true }) ∷ []) c.requires.idle
     (subst (λ h. KeepsRest h c.get-found.new.self) (sym same) c.get-found.ensures.rest)
     (subst (λ h. HasLogged h.seat c.get-found.new.self.seat
     ((Get c.args.key, record { before = c.get-found.result; matched = true }) ∷ [])) (sym same)
-    c.get-found.ensures.got.replied) _ refl
+    c.get-found.ensures.got.replied) _ refl)
 
 pub returns : goal.returns
 returns g c =
@@ -37,16 +39,16 @@ returns g c =
     ((Get c.args.key, record { before = c.get-found.result; matched = true }) ∷ [])) (sym same)
     c.get-found.ensures.got.replied in
     record {
-      table = c.give.ensures.table ∙ c.hold.ensures.table;
+      table = c.give_back.ensures.table ∙ c.hold.ensures.table;
       idle = idle-again c.args.lane c.args.token.now.me c.hold.new.token.me c.hold.ensures.taken
           c.get-found.new.self
           ((Get c.args.key, record { before = c.get-found.result; matched = true }) ∷ [])
-          c.requires.idle keeps logged _ refl c.give.new.token.me
-          c.give.ensures.given;
+          c.requires.idle keeps logged _ refl c.give_back.new.token.me
+          c.give_back.ensures.given.1;
       visited = visited c.args.lane c.args.token.now.me c.hold.new.token.me
           c.hold.ensures.taken c.get-found.new.self
           ((Get c.args.key, record { before = c.get-found.result; matched = true }) ∷ [])
-          c.requires.idle keeps logged _ refl c.give.new.token.me c.give.ensures.given
+          c.requires.idle keeps logged _ refl c.give_back.new.token.me c.give_back.ensures.given.1
           (λ there back. HasGot there.map c.args.key there.seat back.seat c.get-found.result)
           (subst (λ (h : HandleOf).
           HasGot h.map c.args.key h.seat c.get-found.new.self.seat c.get-found.result) (sym same)
@@ -55,5 +57,5 @@ returns g c =
           c.hold.ensures.taken c.get-found.new.self
           ((Get c.args.key, record { before = c.get-found.result; matched = true }) ∷ [])
           c.requires.idle keeps logged _ refl
-          c.give.new.token.me c.give.ensures.given;
+          c.give_back.new.token.me c.give_back.ensures.given.1;
     }
