@@ -26,20 +26,22 @@ pub(crate) enum Workload {
 }
 
 impl Workload {
+    /// All of them.
+    const ALL: [Workload; 9] = [
+        Workload::Gets,
+        Workload::Reads,
+        Workload::Changes,
+        Workload::Growth,
+        Workload::OneKey,
+        Workload::Fill,
+        Workload::Churn,
+        Workload::Kinds,
+        Workload::Check,
+    ];
+
     /// The workload of a name.
     pub(crate) fn named(name: &str) -> Option<Workload> {
-        match name {
-            "A" => Some(Workload::Gets),
-            "B" => Some(Workload::Reads),
-            "C" => Some(Workload::Changes),
-            "D" => Some(Workload::Growth),
-            "E" => Some(Workload::OneKey),
-            "F" => Some(Workload::Fill),
-            "G" => Some(Workload::Churn),
-            "kinds" => Some(Workload::Kinds),
-            "check" => Some(Workload::Check),
-            _ => None,
-        }
+        Workload::ALL.into_iter().find(|it| it.name() == name)
     }
 
     /// Its name on the command line, and in what is printed.
