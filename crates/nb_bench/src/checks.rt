@@ -1,12 +1,13 @@
 //! Checks under load: what the threads are told is compared with what there is in the end.
-use crate::callers::handles;
-use crate::crew::{Job, Worker, do_job};
+ghost use Rattle.nb_map.specs.Maps.{IsMine};
+
+use crate::crew::{Done, Job, Worker, do_job};
 use crate::faults::{BenchFault, WorkFault, Wrong};
 use crate::keys::{KEY_COUNT, Spacing, number};
 use crate::options::Options;
 use crate::random::Random;
 use nb_core::{Key, Num};
-use nb_map::{AddFault, Handle};
+use nb_map::{AddFault, Map};
 use std::alloc::Global;
 use std::rt::Clock;
 use std::sync::Wait;
@@ -26,13 +27,17 @@ struct Puts {
     count: u32,
 }
 
-impl Job<Handle> for Puts {
+impl Job for Puts {
     fn work<R: Wait + Clock + Eprint>(
         &self,
         rt: &R,
-        worker: &mut Worker<Handle>,
+        map: &Map,
+        worker: &mut Worker,
         number: usize,
-    ) -> Result<(), WorkFault> {
+    ) -> Result<(), WorkFault>
+        requires own { IsMine map.now worker.old.seat }
+        ensures own { IsMine map.now worker.new.seat }
+    {
         let mut random = Random::new(number as u64);
         let first = (number as u64)
             .wrapping_mul(u64::from(self.count))
@@ -40,38 +45,47 @@ impl Job<Handle> for Puts {
         for round in 0..self.count {
             let drawn = random.draw();
             let value = Num::new(first.wrapping_add(u64::from(round)))?;
-            let key = self.spacing.key((drawn % FEW) as u32);
-            put_told(rt, worker, key, value)?;
+            put_told(rt, map, worker, few_key(drawn, self.spacing), value)?;
             if drawn >> 60 == 0 {
-                let key = self.spacing.key(((drawn >> 32) % FEW) as u32);
-                let before = worker.caller.remove(rt, key);
-                keep(&mut worker.told, before)?;
+                remove_told(rt, map, worker, few_key(drawn >> 32, self.spacing))?;
             }
             if round % OWN_EACH == 0 {
-                put_own(
-                    rt,
-                    &mut worker.caller,
-                    self.spacing,
-                    number,
-                    round / OWN_EACH,
-                )?;
+                put_own(rt, map, worker, self.spacing, number, round / OWN_EACH)?;
             }
         }
         Ok(())
     }
 }
 
+/// One of the few keys.
+fn few_key(drawn: u64, spacing: Spacing) -> Key {
+    spacing.key((drawn % FEW) as u32)
+}
+
 /// Puts a number, and keeps the one that was there before.
 fn put_told<R: Wait>(
     rt: &R,
-    worker: &mut Worker<Handle>,
+    map: &Map,
+    worker: &mut Worker,
     key: Key,
     value: Num,
-) -> Result<(), WorkFault> {
-    match worker.caller.put(rt, key, value) {
+) -> Result<(), WorkFault>
+    requires own { IsMine map.now worker.old.seat }
+    ensures own { IsMine map.now worker.new.seat }
+{
+    match map.put(rt, &mut worker.seat, key, value) {
         Ok(before) => keep(&mut worker.told, before),
         Err(_) => Err(WorkFault::Full),
     }
+}
+
+/// Takes out a key, and keeps the number that it had.
+fn remove_told<R: Wait>(rt: &R, map: &Map, worker: &mut Worker, key: Key) -> Result<(), WorkFault>
+    requires own { IsMine map.now worker.old.seat }
+    ensures own { IsMine map.now worker.new.seat }
+{
+    let before = map.remove(rt, &mut worker.seat, key);
+    keep(&mut worker.told, before)
 }
 
 /// Keeps a number, if there is one.
@@ -85,16 +99,20 @@ fn keep(told: &mut Vec<u64>, before: Option<Num>) -> Result<(), WorkFault> {
 /// Puts at a key that no other worker puts at, nor this one twice.
 fn put_own<R: Wait>(
     rt: &R,
-    handle: &mut Handle,
+    map: &Map,
+    worker: &mut Worker,
     spacing: Spacing,
     owner: usize,
     count: u32,
-) -> Result<(), WorkFault> {
+) -> Result<(), WorkFault>
+    requires own { IsMine map.now worker.old.seat }
+    ensures own { IsMine map.now worker.new.seat }
+{
     let own = (owner as u64)
         .wrapping_add(1)
         .wrapping_mul(KEY_COUNT as u64);
     let place = own.wrapping_add(u64::from(count)) % (1 << 32);
-    match handle.put(rt, spacing.key(place as u32), number(0)) {
+    match map.put(rt, &mut worker.seat, spacing.key(place as u32), number(0)) {
         Ok(_) => Ok(()),
         Err(_) => Err(WorkFault::Full),
     }
@@ -109,19 +127,23 @@ struct Adds {
     threads: u64,
 }
 
-impl Job<Handle> for Adds {
+impl Job for Adds {
     fn work<R: Wait + Clock + Eprint>(
         &self,
         rt: &R,
-        worker: &mut Worker<Handle>,
+        map: &Map,
+        worker: &mut Worker,
         number: usize,
-    ) -> Result<(), WorkFault> {
+    ) -> Result<(), WorkFault>
+        requires own { IsMine map.now worker.old.seat }
+        ensures own { IsMine map.now worker.new.seat }
+    {
         let mut random = Random::new(number as u64);
         let threads = self.threads.max(1);
         let more = u64::from((number as u64) < self.count % threads);
         let count = (self.count / threads).wrapping_add(more);
         for _round in 0..count {
-            add_drawn(rt, worker, self.spacing, random.draw())?;
+            add_drawn(rt, map, worker, self.spacing, random.draw())?;
         }
         worker.tally.calls = count;
         Ok(())
@@ -131,13 +153,17 @@ impl Job<Handle> for Adds {
 /// Adds a number from 1 to 8 at a key, both as they were drawn.
 fn add_drawn<R: Wait>(
     rt: &R,
-    worker: &mut Worker<Handle>,
+    map: &Map,
+    worker: &mut Worker,
     spacing: Spacing,
     drawn: u64,
-) -> Result<(), WorkFault> {
+) -> Result<(), WorkFault>
+    requires own { IsMine map.now worker.old.seat }
+    ensures own { IsMine map.now worker.new.seat }
+{
     let key = spacing.key((drawn % u64::from(KEY_COUNT)) as u32);
     let amount = number((drawn >> 61) as u32 + 1);
-    match worker.caller.add(rt, key, amount) {
+    match map.add(rt, &mut worker.seat, key, amount) {
         Ok(_) => {
             worker.tally.sum = worker.tally.sum.wrapping_add(amount.get());
             Ok(())
@@ -157,21 +183,19 @@ pub(crate) fn check_puts<R: Threads + Sync + Wait + Clock + Eprint>(
         spacing: options.spacing,
         count: options.puts,
     };
-    let mut done = do_job(
-        rt,
-        alloc,
-        handles(alloc, options)?,
-        options.spacing,
-        &[],
-        &job,
-    )?;
-    for place in 0..FEW as u32 {
-        let left = done.handle()?.get(options.spacing.key(place));
-        keep(&mut done.told, left)?;
-    }
+    let mut done = do_job(rt, alloc, options.shape()?, options.spacing, &[], &job)?;
+    keep_left(options, &mut done)?;
     are_told_once(options, &mut done.told)?;
-    is_counted(done.handle()?)?;
+    is_counted(alloc, &done)?;
     Ok(done.told.len() as u64)
+}
+
+/// Keeps the numbers that the few keys have in the end, beside those that were told.
+fn keep_left(options: &Options, done: &mut Done) -> Result<(), BenchFault> {
+    for place in 0..FEW as u32 {
+        keep(&mut done.told, done.ended.get(options.spacing.key(place)))?;
+    }
+    Ok(())
 }
 
 /// Sees that each number that was put at the few keys was told once: to the call that took its
@@ -187,17 +211,13 @@ fn are_told_once(options: &Options, told: &mut Vec<u64>) -> Result<(), BenchFaul
     Ok(())
 }
 
-/// Sees that a map at rest has as many keys as it says, and answers the sum of their numbers.
-fn is_counted(handle: &mut Handle) -> Result<u64, BenchFault> {
-    let (mut count, mut sum) = (0u64, 0u64);
-    handle.for_each(|_key, value| {
-        count = count.wrapping_add(1);
-        sum = sum.wrapping_add(value.get());
-    });
-    if count != handle.size_estimate() {
+/// Sees that the map has as many keys as it says.
+fn is_counted(alloc: Global, done: &Done) -> Result<(), BenchFault> {
+    let entries = done.ended.entries(alloc)?;
+    if entries.len() as u64 != done.ended.size() {
         return Err(BenchFault::Wrong(Wrong::Size));
     }
-    Ok(sum)
+    Ok(())
 }
 
 /// Makes the adds, sees what was added, and answers how many there were.
@@ -211,16 +231,21 @@ pub(crate) fn check_adds<R: Threads + Sync + Wait + Clock + Eprint>(
         count: options.adds,
         threads: options.threads as u64,
     };
-    let mut done = do_job(
-        rt,
-        alloc,
-        handles(alloc, options)?,
-        options.spacing,
-        &[],
-        &job,
-    )?;
-    if is_counted(done.handle()?)? != done.tally.sum {
+    let done = do_job(rt, alloc, options.shape()?, options.spacing, &[], &job)?;
+    is_summed(alloc, &done)?;
+    is_counted(alloc, &done)?;
+    Ok(done.tally.calls)
+}
+
+/// Sees that the numbers in the map are the sum of what was added.
+fn is_summed(alloc: Global, done: &Done) -> Result<(), BenchFault> {
+    let entries = done.ended.entries(alloc)?;
+    let mut sum = 0u64;
+    for (_key, value) in entries.iter() {
+        sum = sum.wrapping_add(value.get());
+    }
+    if sum != done.tally.sum {
         return Err(BenchFault::Wrong(Wrong::Sum));
     }
-    Ok(done.tally.calls)
+    Ok(())
 }

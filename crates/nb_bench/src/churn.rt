@@ -1,5 +1,6 @@
 //! Keys that come and go: each worker puts new keys, and takes out its oldest ones.
-use crate::callers::handles;
+ghost use Rattle.nb_map.specs.Maps.{IsMine};
+
 use crate::crew::{Job, Worker, do_job};
 use crate::faults::{BenchFault, WorkFault, Wrong};
 use crate::growth::middle_of;
@@ -8,7 +9,7 @@ use crate::meeting::Meeting;
 use crate::options::Options;
 use crate::timing::{Watch, nanoseconds_since, now};
 use nb_core::{Key, MOST_KEYS};
-use nb_map::Handle;
+use nb_map::Map;
 use std::alloc::Global;
 use std::rt::Clock;
 use std::sync::Wait;
@@ -79,16 +80,20 @@ impl Churn {
     }
 }
 
-impl Job<Handle> for Churn {
+impl Job for Churn {
     fn work<R: Wait + Clock + Eprint>(
         &self,
         rt: &R,
-        worker: &mut Worker<Handle>,
+        map: &Map,
+        worker: &mut Worker,
         number: usize,
-    ) -> Result<(), WorkFault> {
+    ) -> Result<(), WorkFault>
+        requires own { IsMine map.now worker.old.seat }
+        ensures own { IsMine map.now worker.new.seat }
+    {
         self.meeting.meet();
         let start = now(rt)?;
-        let made = make_steps(rt, &mut worker.caller, self, number);
+        let made = make_steps(rt, map, worker, self, number);
         worker.tally.nanoseconds = nanoseconds_since(rt, start)?;
         worker.tally.calls = made.wrapping_mul(2);
         worker.tally.is_full = made < self.steps;
@@ -98,14 +103,17 @@ impl Job<Handle> for Churn {
 
 /// Makes the steps of the worker with this number, until a new key is refused. It answers how many
 /// it made.
-fn make_steps<R: Wait>(rt: &R, handle: &mut Handle, job: &Churn, owner: usize) -> u64 {
+fn make_steps<R: Wait>(rt: &R, map: &Map, worker: &mut Worker, job: &Churn, owner: usize) -> u64
+    requires own { IsMine map.now worker.old.seat }
+    ensures own { IsMine map.now worker.new.seat }
+{
     for step in 0..job.steps {
         let place = job.newest(step, owner);
         let key = job.spacing.key(place);
-        if handle.put(rt, key, number(place)).is_err() {
+        if map.put(rt, &mut worker.seat, key, number(place)).is_err() {
             return step;
         }
-        handle.remove(rt, job.oldest(step, owner));
+        map.remove(rt, &mut worker.seat, job.oldest(step, owner));
     }
     job.steps
 }
@@ -129,15 +137,8 @@ fn churn_once<R: Threads + Sync + Wait + Clock + Eprint>(
     places: &[u32],
 ) -> Result<Churned, BenchFault> {
     let job = Churn::new(options);
-    let mut done = do_job(
-        rt,
-        alloc,
-        handles(alloc, options)?,
-        options.spacing,
-        places,
-        &job,
-    )?;
-    if done.handle()?.size_estimate() != places.len() as u64 {
+    let done = do_job(rt, alloc, options.shape()?, options.spacing, places, &job)?;
+    if done.ended.size() != places.len() as u64 {
         return Err(BenchFault::Wrong(Wrong::Size));
     }
     Ok(Churned {

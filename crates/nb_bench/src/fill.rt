@@ -5,7 +5,7 @@ use crate::growth::{Pass, pass_once};
 use crate::keys::shuffled;
 use crate::options::Options;
 use crate::timing::{Watch, nanoseconds_since, now};
-use nb_map::Handle;
+use nb_map::Map;
 use std::alloc::Global;
 use std::rt::Clock;
 use std::sync::Wait;
@@ -58,7 +58,7 @@ impl Times {
 fn time_make<R: Clock>(rt: &R, alloc: Global, options: &Options) -> Result<u64, BenchFault> {
     let shape = options.shape()?;
     let start = now(rt)?;
-    let made = Handle::open(alloc, shape)?;
+    let made = Map::new(alloc, shape)?;
     let spent = nanoseconds_since(rt, start);
     drop(made);
     Ok(spent?)

@@ -1,8 +1,8 @@
 //! Calls of distinct keys by several threads, above all puts while the map grows.
 ghost use Rattle.std.specs.Prelude.{◌≡◌, ◌*◌, ◌/◌, ◌-◌, ◌<◌, length, min, slice_index};
+ghost use Rattle.nb_map.specs.Maps.{IsMine};
 
-use crate::callers::{handles, put_all};
-use crate::crew::{Done, Job, Worker, do_job};
+use crate::crew::{Done, Job, Worker, do_job, put_all};
 use crate::faults::{BenchFault, WorkFault, Wrong};
 use crate::keys::{Spacing, number, shuffled};
 use crate::kinds::get_all;
@@ -10,7 +10,7 @@ use crate::meeting::Meeting;
 use crate::options::Options;
 use crate::timing::{Watch, nanoseconds_since, now};
 use nb_core::OutOfMemory;
-use nb_map::Handle;
+use nb_map::{Map, Seat};
 use std::alloc::Global;
 use std::rt::Clock;
 use std::sync::Wait;
@@ -58,32 +58,47 @@ impl<'a> Growth<'a> {
         let (part, _) = rest.split_at(size.min(rest.len()));
         part
     }
+
+    /// Makes the pass at the keys with these places, and answers how long the longest put took where
+    /// that is asked for.
+    fn pass_at<R: Wait + Clock>(
+        &self,
+        rt: &R,
+        map: &Map,
+        worker: &mut Worker,
+        places: &[u32],
+    ) -> Result<Option<u64>, WorkFault>
+        requires own { IsMine map.now worker.old.seat }
+        ensures own { IsMine map.now worker.new.seat }
+    {
+        let spacing = self.spacing;
+        match self.pass {
+            Pass::Puts => put_all(rt, map, &mut worker.seat, spacing, places)?,
+            Pass::Gets => worker.tally.sum = get_all(map, &mut worker.seat, spacing, places),
+            Pass::LongestPut => {
+                return Ok(Some(longest_put(rt, map, &mut worker.seat, spacing, places)?));
+            }
+            Pass::TimedPuts => time_puts(rt, map, worker, spacing, places)?,
+        }
+        Ok(None)
+    }
 }
 
-impl Job<Handle> for Growth<'_> {
+impl Job for Growth<'_> {
     fn work<R: Wait + Clock + Eprint>(
         &self,
         rt: &R,
-        worker: &mut Worker<Handle>,
+        map: &Map,
+        worker: &mut Worker,
         number: usize,
-    ) -> Result<(), WorkFault> {
+    ) -> Result<(), WorkFault>
+        requires own { IsMine map.now worker.old.seat }
+        ensures own { IsMine map.now worker.new.seat }
+    {
         let part = self.part(number);
-        let handle = &mut worker.caller;
         self.meeting.meet();
         let start = now(rt)?;
-        let mut longest = None;
-        match self.pass {
-            Pass::Puts => put_all(rt, handle, self.spacing, part)?,
-            Pass::Gets => worker.tally.sum = get_all(handle, self.spacing, part),
-            Pass::LongestPut => longest = Some(longest_put(rt, handle, self.spacing, part)?),
-            Pass::TimedPuts => {
-                for place in part {
-                    worker
-                        .told
-                        .push(timed_put(rt, handle, self.spacing, *place)?)?;
-                }
-            }
-        }
+        let longest = self.pass_at(rt, map, worker, part)?;
         worker.tally.calls = part.len() as u64;
         let spent = nanoseconds_since(rt, start)?;
         worker.tally.nanoseconds = longest.unwrap_or(spent);
@@ -94,26 +109,52 @@ impl Job<Handle> for Growth<'_> {
 /// Puts numbers at the keys with these places, and answers how long the longest put took.
 fn longest_put<R: Wait + Clock>(
     rt: &R,
-    handle: &mut Handle,
+    map: &Map,
+    seat: &mut Seat,
     spacing: Spacing,
     places: &[u32],
-) -> Result<u64, WorkFault> {
+) -> Result<u64, WorkFault>
+    requires own { IsMine map.now seat.old }
+    ensures own { IsMine map.now seat.new }
+{
     let mut longest = 0;
     for place in places {
-        longest = timed_put(rt, handle, spacing, *place)?.max(longest);
+        longest = timed_put(rt, map, seat, spacing, *place)?.max(longest);
     }
     Ok(longest)
+}
+
+/// Puts numbers at the keys with these places, and keeps how long each put took.
+fn time_puts<R: Wait + Clock>(
+    rt: &R,
+    map: &Map,
+    worker: &mut Worker,
+    spacing: Spacing,
+    places: &[u32],
+) -> Result<(), WorkFault>
+    requires own { IsMine map.now worker.old.seat }
+    ensures own { IsMine map.now worker.new.seat }
+{
+    for place in places {
+        let spent = timed_put(rt, map, &mut worker.seat, spacing, *place)?;
+        worker.told.push(spent)?;
+    }
+    Ok(())
 }
 
 /// Puts a number at the key with this place, and answers how long that took.
 fn timed_put<R: Wait + Clock>(
     rt: &R,
-    handle: &mut Handle,
+    map: &Map,
+    seat: &mut Seat,
     spacing: Spacing,
     place: u32,
-) -> Result<u64, WorkFault> {
+) -> Result<u64, WorkFault>
+    requires own { IsMine map.now seat.old }
+    ensures own { IsMine map.now seat.new }
+{
     let start = now(rt)?;
-    let before = handle.put(rt, spacing.key(place), number(place));
+    let before = map.put(rt, seat, spacing.key(place), number(place));
     if before.is_err() {
         return Err(WorkFault::Full);
     }
@@ -127,28 +168,21 @@ pub(crate) fn pass_once<R: Threads + Sync + Wait + Clock + Eprint>(
     options: &Options,
     pass: Pass,
     places: &[u32],
-) -> Result<Done<Handle>, BenchFault> {
+) -> Result<Done, BenchFault> {
     let job = Growth::new(pass, options, places);
     let before = match pass {
         Pass::Gets => places,
         _ => &[],
     };
-    let mut done = do_job(
-        rt,
-        alloc,
-        handles(alloc, options)?,
-        options.spacing,
-        before,
-        &job,
-    )?;
-    if done.handle()?.size_estimate() != places.len() as u64 {
+    let done = do_job(rt, alloc, options.shape()?, options.spacing, before, &job)?;
+    if done.ended.size() != places.len() as u64 {
         return Err(BenchFault::Wrong(Wrong::Size));
     }
     Ok(done)
 }
 
-/// What a round measures, in nanoseconds: how long all puts take; within which times half of the
-/// puts are, 99 of a hundred, and 999 of a thousand; and how long the longest put takes.
+/// What a round measures, in nanoseconds: how long all puts take; within which times half of the puts
+/// are, 99 of a hundred, and 999 of a thousand; and how long the longest put takes.
 pub(crate) type Times = [u64; 5];
 
 /// The times by name, each with the calls that it is of.

@@ -1,12 +1,14 @@
 //! Calls of one kind, one after another, each at its key's home slot: what a call of each kind
 //! takes.
-use crate::callers::put_all;
+ghost use Rattle.nb_map.specs.Maps.{AreMine, IsMine};
+
+use crate::crew::{put, put_all};
 use crate::faults::{BenchFault, WorkFault, Wrong};
 use crate::keys::{KEY_COUNT, Spacing, number, shuffled};
 use crate::options::Options;
 use crate::timing::{Watch, nanoseconds_since, now};
 use nb_core::Num;
-use nb_map::Handle;
+use nb_map::{Map, Seat};
 use std::alloc::Global;
 use std::rt::Clock;
 use std::sync::Wait;
@@ -60,27 +62,29 @@ impl Kind {
 #[inline(never)]
 fn put_other<R: Wait>(
     rt: &R,
-    handle: &mut Handle,
+    map: &Map,
+    seat: &mut Seat,
     spacing: Spacing,
     places: &[u32],
-) -> Result<(), WorkFault> {
+) -> Result<(), WorkFault>
+    requires own { IsMine map.now seat.old }
+    ensures own { IsMine map.now seat.new }
+{
     for place in places {
-        if handle
-            .put(rt, spacing.key(*place), number(*place ^ 1))
-            .is_err()
-        {
-            return Err(WorkFault::Full);
-        }
+        put(rt, map, seat, spacing.key(*place), number(*place ^ 1))?;
     }
     Ok(())
 }
 
 /// Gets each of the keys, and answers the sum of what they have.
 #[inline(never)]
-pub(crate) fn get_all(handle: &mut Handle, spacing: Spacing, places: &[u32]) -> u64 {
+pub(crate) fn get_all(map: &Map, seat: &mut Seat, spacing: Spacing, places: &[u32]) -> u64
+    requires own { IsMine map.now seat.old }
+    ensures own { IsMine map.now seat.new }
+{
     let mut sum = 0u64;
     for place in places {
-        let found = handle.get(spacing.key(*place));
+        let found = map.get(seat, spacing.key(*place));
         sum = sum.wrapping_add(found.map_or(0, Num::get));
     }
     sum
@@ -90,12 +94,16 @@ pub(crate) fn get_all(handle: &mut Handle, spacing: Spacing, places: &[u32]) -> 
 #[inline(never)]
 fn add_all<R: Wait>(
     rt: &R,
-    handle: &mut Handle,
+    map: &Map,
+    seat: &mut Seat,
     spacing: Spacing,
     places: &[u32],
-) -> Result<(), WorkFault> {
+) -> Result<(), WorkFault>
+    requires own { IsMine map.now seat.old }
+    ensures own { IsMine map.now seat.new }
+{
     for place in places {
-        if handle.add(rt, spacing.key(*place), number(1)).is_err() {
+        if map.add(rt, seat, spacing.key(*place), number(1)).is_err() {
             return Err(WorkFault::Full);
         }
     }
@@ -104,45 +112,67 @@ fn add_all<R: Wait>(
 
 /// Takes out each of the keys.
 #[inline(never)]
-fn remove_all<R: Wait>(rt: &R, handle: &mut Handle, spacing: Spacing, places: &[u32]) {
+fn remove_all<R: Wait>(rt: &R, map: &Map, seat: &mut Seat, spacing: Spacing, places: &[u32])
+    requires own { IsMine map.now seat.old }
+    ensures own { IsMine map.now seat.new }
+{
     for place in places {
-        handle.remove(rt, spacing.key(*place));
+        map.remove(rt, seat, spacing.key(*place));
     }
 }
 
-/// Makes a call of the kind at each of the keys, and answers how long they took together. What is
-/// read is what was put.
+/// Makes a call of the kind at each of the keys, and answers how long they took together, and the
+/// sum of what they read.
 fn time_all<R: Wait + Clock>(
     rt: &R,
-    handle: &mut Handle,
+    map: &Map,
+    seat: &mut Seat,
     spacing: Spacing,
     places: &[u32],
     kind: Kind,
-) -> Result<u64, BenchFault> {
+) -> Result<(u64, u64), WorkFault>
+    requires own { IsMine map.now seat.old }
+    ensures own { IsMine map.now seat.new }
+{
     let start = now(rt)?;
     let mut sum = 0u64;
     match kind {
-        Kind::PutNew => put_all(rt, handle, spacing, places)?,
-        Kind::Put => put_other(rt, handle, spacing, places)?,
-        Kind::Get | Kind::GetNone => sum = get_all(handle, spacing, places),
-        Kind::Add => add_all(rt, handle, spacing, places)?,
-        Kind::Remove => remove_all(rt, handle, spacing, places),
+        Kind::PutNew => put_all(rt, map, seat, spacing, places)?,
+        Kind::Put => put_other(rt, map, seat, spacing, places)?,
+        Kind::Get | Kind::GetNone => sum = get_all(map, seat, spacing, places),
+        Kind::Add => add_all(rt, map, seat, spacing, places)?,
+        Kind::Remove => remove_all(rt, map, seat, spacing, places),
     }
-    let spent = nanoseconds_since(rt, start)?;
-    if sum
-        != if matches!(kind, Kind::Get) {
-            PLACES_SUM
-        } else {
-            0
-        }
-    {
-        return Err(BenchFault::Wrong(Wrong::Sum));
-    }
-    Ok(spent)
+    Ok((nanoseconds_since(rt, start)?, sum))
 }
 
-/// Makes calls of all kinds on a new map. Where a kind took less time than before, that is its
-/// time.
+/// Makes calls of all kinds. Where a kind took less time than before, that is its time.
+fn time_kinds<R: Wait + Clock>(
+    rt: &R,
+    map: &Map,
+    seat: &mut Seat,
+    spacing: Spacing,
+    places: &[u32],
+    times: &mut [u64; 6],
+) -> Result<(), BenchFault>
+    requires own { IsMine map.now seat.old }
+    ensures own { IsMine map.now seat.new }
+{
+    for (kind, time) in Kind::ALL.iter().zip(times.iter_mut()) {
+        let (taken, sum) = time_all(rt, map, seat, spacing, places, *kind)?;
+        let wanted = match kind {
+            Kind::Get => PLACES_SUM,
+            _ => 0,
+        };
+        if sum != wanted {
+            return Err(BenchFault::Wrong(Wrong::Sum));
+        }
+        *time = taken.min(*time);
+    }
+    Ok(())
+}
+
+/// Makes calls of all kinds on a new map, by one of its seats.
 fn time_once<R: Wait + Clock>(
     rt: &R,
     alloc: Global,
@@ -150,12 +180,26 @@ fn time_once<R: Wait + Clock>(
     places: &[u32],
     times: &mut [u64; 6],
 ) -> Result<(), BenchFault> {
-    let mut handle = Handle::open(alloc, options.shape()?)?;
-    for (kind, time) in Kind::ALL.iter().zip(times.iter_mut()) {
-        let taken = time_all(rt, &mut handle, options.spacing, places, *kind)?;
-        *time = taken.min(*time);
+    let (map, seats) = Map::new(alloc, options.shape()?)?;
+    time_by_one(rt, &map, seats, options.spacing, places, times)
+}
+
+/// Makes calls of all kinds by the last of the seats, if there is one.
+fn time_by_one<R: Wait + Clock>(
+    rt: &R,
+    map: &Map,
+    seats: Vec<Seat>,
+    spacing: Spacing,
+    places: &[u32],
+    times: &mut [u64; 6],
+) -> Result<(), BenchFault>
+    requires own { AreMine map.now seats.items }
+{
+    let mut seats = seats;
+    match seats.pop() {
+        Some(mut seat) => time_kinds(rt, map, &mut seat, spacing, places, times),
+        None => Ok(()),
     }
-    Ok(())
 }
 
 /// Makes calls of all kinds at all keys in new maps, again and again until the time is up. It

@@ -1,11 +1,11 @@
 //! What memory a map takes that has all keys.
 
-use crate::callers::put_all;
+use crate::crew::filled;
 use crate::faults::BenchFault;
 use crate::keys::shuffled;
 use crate::options::Options;
 use nb_core::read_number;
-use nb_map::Handle;
+use nb_map::Map;
 use std::alloc::Global;
 use std::fs;
 use std::rt::Files;
@@ -41,8 +41,8 @@ pub(crate) fn measure<R: Wait + Files + AllocGlobal>(
 ) -> Result<Option<u64>, BenchFault> {
     let places = shuffled(alloc, options.keys)?;
     let before = resident(rt);
-    let mut handle = Handle::open(alloc, options.shape()?)?;
-    put_all(rt, &mut handle, options.spacing, places.as_slice())?;
+    let (map, seats) = Map::new(alloc, options.shape()?)?;
+    let _seats = filled(rt, &map, seats, options.spacing, places.as_slice())?;
     match (before, resident(rt)) {
         (Some(before), Some(after)) => Ok(Some(after.saturating_sub(before))),
         _ => Ok(None),

@@ -1,5 +1,6 @@
 //! The words of the command line.
-ghost use Rattle.std.specs.Prelude.{◌*◌, ◌-◌, ◌^◌, ◌<◌, ◌≤◌};
+ghost use Rattle.std.specs.Prelude.{◌≡◌, ◌*◌, ◌-◌, ◌^◌, ◌<◌, ◌≤◌, IfOk};
+ghost use Rattle.nb_core.specs.Plans.{HasRoomFor};
 ghost use Rattle.nb_core.specs.declared.shapes.TheConstants.{MAX_EXPONENT};
 
 use crate::callers::By;
@@ -17,7 +18,7 @@ use std::time::Duration;
 #[derive(Drop)]
 pub(crate) struct Options {
     pub(crate) workload: Workload,
-    /// How many threads work, each with a handle of its own.
+    /// How many threads work, each with a seat of its own.
     pub(crate) threads: usize,
     /// How long it is measured.
     pub(crate) time: Duration,
@@ -59,18 +60,29 @@ impl Options {
     pub(crate) fn shape(&self) -> Result<Shape, ShapeFault> {
         let tables = &self.tables;
         if tables.exponents.is_empty() {
-            // In `G` those that ever come.
-            let keys = match self.workload {
-                Workload::Churn => keys_ever(self.keys, self.threads),
-                _ => self.keys as usize,
-            };
-            return Shape::for_keys(keys, self.threads);
+            return self.shape_by_keys();
         }
         Shape::of_tables(tables.exponents.as_slice())?
             .with_seats(self.threads)?
             .with_stripes(tables.stripes)?
             .with_reprobe_limit(tables.reprobes)?
             .with_chunk(tables.chunk)
+    }
+
+    /// The shape for the workload's keys, in `G` for all that ever come.
+    fn shape_by_keys(&self) -> Result<Shape, ShapeFault> {
+        self.shape_for(match self.workload {
+            Workload::Churn => keys_ever(self.keys, self.threads),
+            _ => self.keys as usize,
+        })
+    }
+
+    /// The shape for so many keys, with a seat for each thread.
+    fn shape_for(&self, keys: usize) -> Result<Shape, ShapeFault>
+        ensures room { IfOk result (λ shape. HasRoomFor shape keys) }
+        ensures seats { IfOk result (λ shape. shape.seats ≡ self.now.threads) }
+    {
+        Shape::for_keys(keys, self.threads)
     }
 }
 
@@ -140,7 +152,7 @@ pub(crate) const LINE: CommandLine = CommandLine {
         Argument {
             form: Form::Place("THREADS"),
             default: Some("1"),
-            help: "How many threads run at once, each with its own handle; 1 to 256",
+            help: "How many threads run at once, each with its own seat; 1 to 256",
         },
         Argument {
             form: Form::Place("SECONDS"),
@@ -176,8 +188,8 @@ pub(crate) const LINE: CommandLine = CommandLine {
         },
         Argument {
             form: Form::Text("--by", "WHAT"),
-            default: Some("handle"),
-            help: "In A to C and E: who calls, handle (of a map) or guest \
+            default: Some("seat"),
+            help: "In A to C and E: who calls, seat (of a map), handle (of a map) or guest \
                 (of a map without an end)",
         },
         Argument {
@@ -262,39 +274,53 @@ fn plan_of(
 
 const NO_WORKLOAD: &str = "none of A, B, C, D, E, F, G, kinds and check";
 
-const NO_KEYS: &str = "none of dense, spread and zipf";
-
-const NO_CALLER: &str = "neither handle nor guest";
-
-/// What a word of this name asks for, if there is such a thing.
-fn chosen<T>(
-    alloc: Global,
-    name: &'static str,
-    word: &str,
-    found: Option<T>,
-    complaint: &'static str,
-) -> Result<T, WordsFault> {
-    match found {
-        Some(found) => Ok(found),
-        None => Err(wrong_word(alloc, name, word, complaint)),
+/// The workload that is asked for.
+fn read_workload(alloc: Global, name: &str) -> Result<Workload, WordsFault> {
+    match Workload::named(name) {
+        Some(workload) => Ok(workload),
+        None => Err(wrong_word(alloc, "WORKLOAD", name, NO_WORKLOAD)),
     }
 }
 
-/// The keys of a name, and how often each is drawn.
-fn keys_named(name: &str) -> Option<(Spacing, Law)> {
+const NO_KEYS: &str = "none of dense, spread and zipf";
+
+/// The keys that are asked for, and how often each is drawn.
+fn read_keys(alloc: Global, name: &str) -> Result<(Spacing, Law), WordsFault> {
     match name {
-        "dense" => Some((Spacing::Dense, Law::Even)),
-        "spread" => Some((Spacing::Spread, Law::Even)),
-        "zipf" => Some((Spacing::Dense, Law::Zipf)),
-        _ => None,
+        "dense" => Ok((Spacing::Dense, Law::Even)),
+        "spread" => Ok((Spacing::Spread, Law::Even)),
+        "zipf" => Ok((Spacing::Dense, Law::Zipf)),
+        _ => Err(wrong_word(alloc, "--keys", name, NO_KEYS)),
+    }
+}
+
+const NO_CALLER: &str = "none of seat, handle and guest";
+
+/// What is to call the map.
+fn read_by(alloc: Global, name: &str) -> Result<By, WordsFault> {
+    match By::named(name) {
+        Some(by) => Ok(by),
+        None => Err(wrong_word(alloc, "--by", name, NO_CALLER)),
     }
 }
 
 /// A time in seconds, which may have a fraction.
-fn time_of(text: &str) -> Option<Duration> {
-    match text.parse::<f64>() {
+fn read_time(alloc: Global, text: &str) -> Result<Duration, WordsFault> {
+    let time = match text.parse::<f64>() {
         Ok(seconds) => Duration::try_from_secs_f64(seconds).ok(),
         Err(_) => None,
+    };
+    match time {
+        Some(time) => Ok(time),
+        None => Err(wrong_word(alloc, "SECONDS", text, "not a time in seconds")),
+    }
+}
+
+/// How many keys are asked for, if they are.
+fn live_of(alloc: Global, given: &Given) -> Result<Option<u32>, WordsFault> {
+    match LIVE.find(alloc, given)? {
+        Some(live) => Ok(Some(live as u32)),
+        None => Ok(None),
     }
 }
 
@@ -327,23 +353,12 @@ fn counts_of(alloc: Global, given: &Given) -> Result<(u64, u32, u64), WordsFault
 
 /// The options that the command line gives.
 fn options_of(alloc: Global, given: &Given) -> Result<Options, WordsFault> {
-    let name = given.text("WORKLOAD").unwrap_or("");
-    let workload = chosen(alloc, "WORKLOAD", name, Workload::named(name), NO_WORKLOAD)?;
+    let workload = read_workload(alloc, given.text("WORKLOAD").unwrap_or(""))?;
     let threads = THREADS.find(alloc, given)?.unwrap_or(1);
-    let keys = workload.keys(LIVE.find(alloc, given)?.map(|live| live as u32));
-    let which = given.text("--keys").unwrap_or("dense");
-    let (spacing, law) = chosen(alloc, "--keys", which, keys_named(which), NO_KEYS)?;
-    let text = given.text("SECONDS").unwrap_or("1");
-    let time = chosen(
-        alloc,
-        "SECONDS",
-        text,
-        time_of(text),
-        "not a time in seconds",
-    )?;
+    let keys = workload.keys(live_of(alloc, given)?);
+    let (spacing, law) = read_keys(alloc, given.text("--keys").unwrap_or("dense"))?;
+    let time = read_time(alloc, given.text("SECONDS").unwrap_or("1"))?;
     let (calls, puts, adds) = counts_of(alloc, given)?;
-    let who = given.text("--by").unwrap_or("handle");
-    let by = chosen(alloc, "--by", who, By::named(who), NO_CALLER)?;
     Ok(Options {
         workload,
         threads: threads as usize,
@@ -352,7 +367,7 @@ fn options_of(alloc: Global, given: &Given) -> Result<Options, WordsFault> {
         keys,
         spacing,
         law,
-        by,
+        by: read_by(alloc, given.text("--by").unwrap_or("seat"))?,
         calls,
         puts,
         adds,

@@ -1,14 +1,14 @@
 //! Runs of the workloads whose calls are drawn.
 
-use crate::callers::{By, handles};
+use crate::callers;
+use crate::callers::By;
 use crate::crew::{Tally, do_job};
 use crate::draws::{BATCH, Calls, Draws};
 use crate::faults::BenchFault;
 use crate::keys::{Law, samples_of, shuffled};
 use crate::options::Options;
 use crate::workloads::{Mix, Workload};
-use nb_core::{MAX_SEATS, OutOfMemory};
-use nb_lasting::SharedLasting;
+use nb_core::OutOfMemory;
 use std::alloc::Global;
 use std::rt::Clock;
 use std::sync::Wait;
@@ -68,18 +68,13 @@ pub(crate) fn measure<R: Threads + Sync + Wait + Clock + Eprint>(
         batches: options.calls.div_ceil(BATCH),
         progress: options.progress,
     };
-    let spacing = options.spacing;
     let Tally {
         calls,
         nanoseconds,
         ..
     } = match options.by {
-        By::Handle => do_job(rt, alloc, handles(alloc, options)?, spacing, half, &job)?.tally,
-        By::Guest => {
-            let threads = options.threads.clamp(1, MAX_SEATS);
-            let (_shared, guests) = SharedLasting::open(alloc, threads, options.keys as usize)?;
-            do_job(rt, alloc, guests, spacing, half, &job)?.tally
-        }
+        By::Seat => do_job(rt, alloc, options.shape()?, options.spacing, half, &job)?.tally,
+        By::Handle | By::Guest => callers::measure(rt, alloc, options, half, &job)?,
     };
     Ok(Measured { calls, nanoseconds })
 }
