@@ -283,7 +283,7 @@ impl Catalog {
             → self.old.room < length (with_new_lines self.old.texts (lines_in block.now)) }
     {
         let count = readers_for(block.len(), workers);
-        let mut readers = parted(alloc, &mut self.handle, count)?;
+        let mut readers = split_readers(alloc, &mut self.handle, count)?;
         let places = enter_found(
             rt,
             alloc,
@@ -293,7 +293,7 @@ impl Catalog {
             block,
             &mut readers,
         );
-        gather(alloc, &mut self.handle, readers)?;
+        join_readers(alloc, &mut self.handle, readers)?;
         places
     }
 }
@@ -377,7 +377,7 @@ fn readers_for(bytes: usize, workers: usize) -> usize
 }
 
 /// So many handles for readers, or fewer, each with a seat out of the reserve.
-fn parted(alloc: Global, handle: &mut Handle, count: usize) -> Result<Vec<Handle>, OutOfMemory>
+fn split_readers(alloc: Global, handle: &mut Handle, count: usize) -> Result<Vec<Handle>, OutOfMemory>
     ensures same { IsSameMap handle.old handle.new × (handle.new.seat ≡ handle.old.seat) }
     ensures parted { IfOk result (λ readers. ArePartedFrom handle.old handle.new readers.items) }
     ensures few { IfOk result (λ readers. length readers.items ≤ count) }
@@ -395,7 +395,7 @@ fn parted(alloc: Global, handle: &mut Handle, count: usize) -> Result<Vec<Handle
 
 /// Takes the readers' seats into the reserve, with which all are there, and lets all seats know all
 /// calls.
-fn gather(alloc: Global, handle: &mut Handle, readers: Vec<Handle>) -> Result<(), OutOfMemory>
+fn join_readers(alloc: Global, handle: &mut Handle, readers: Vec<Handle>) -> Result<(), OutOfMemory>
     requires one { All (λ reader. reader.map ≡ handle.old.map) readers.items }
     requires all { length (handle.old.seat ∷ handle.old.reserve ++ all_seats readers.items)
         ≡ handle.old.map.chain.shape.seats }

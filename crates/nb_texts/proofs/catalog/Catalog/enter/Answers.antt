@@ -16,16 +16,16 @@ use Rattle.nb_texts.specs.Memory.{shape_with_room}
 use Rattle.nb_texts.specs.Stopped.{CanRest}
 use Rattle.nb_texts.proofs.catalog.Catalog.enter.Goals as goal
 
-pub gather-requires : goal.gather-requires
-gather-requires g c =
+pub join_readers-requires : goal.join_readers-requires
+join_readers-requires g c =
     let before = c.args.self.now.handle in
-    let parted = c.parted.new.handle in
+    let parted = c.split_readers.new.handle in
     let after = c.enter_found-places.new.handle in
     let readers = c.in_ok-readers.readers.items in
     let readers' = c.enter_found-places.new.readers.items in
     let looked = c.enter_found-places.ensures.looked in
     let from = c.in_ok-readers.ensures.parted in
-    let same = c.parted.ensures.same.0 in
+    let same = c.split_readers.ensures.same.0 in
     let rest = c.enter_found-places.ensures.rest in
     record {
       one = readers-of before parted after readers readers' from looked (rest.map ∙ same);
@@ -37,28 +37,28 @@ returns-clause-rest g c =
     let looked = c.enter_found-places.ensures.looked in
     let before = c.args.self.now in
     let at_rest = c.requires.rest in
-    let parted = c.parted.new.handle in
+    let parted = c.split_readers.new.handle in
     let after = c.enter_found-places.new.handle in
-    let last = c.gather.new.handle in
+    let last = c.join_readers.new.handle in
     let keys = key_for before.hashing in
     let texts' = c.enter_found-places.new.texts in
     let lines = lines_in c.args.block.now in
-    let settled = c.in_ok-gather.ensures.settled in
+    let settled = c.in_ok-join_readers.ensures.settled in
     let kept = c.enter_found-places.ensures.rest in
     let same : last.map ≡ before.handle.map
-    = c.in_ok-gather.ensures.map ∙ kept.map ∙ c.parted.ensures.same.0 in
+    = c.in_ok-join_readers.ensures.map ∙ kept.map ∙ c.split_readers.ensures.same.0 in
     on_ok_weaker c.enter_found-places.result (λ entering.
     let entered = subst (λ (m : MapOf). HasEntered m.chain.shape keys parted.seat after.seat
-    before.texts texts' lines) c.parted.ensures.same.0 entering in
+    before.texts texts' lines) c.split_readers.ensures.same.0 entering in
     let done = gathered-from before.handle parted after last c.in_ok-readers.readers.items
-    c.enter_found-places.new.readers.items settled.0 entered.made c.parted.ensures.same
+    c.enter_found-places.new.readers.items settled.0 entered.made c.split_readers.ensures.same
     c.in_ok-readers.ensures.parted looked kept entered.logged settled.1 in
     let all = entered-gathered keys before.handle last before.texts texts' lines at_rest.logs
     parted.seat after.seat entered done at_rest.index in
     let claims = gathered-claims entered.made before.handle last at_rest.logs done entered.puts
     entered.claims at_rest.claims in
     record {
-      whole = c.in_ok-gather.ensures.whole;
+      whole = c.in_ok-join_readers.ensures.whole;
       logs = all.0;
       index = all.1;
       claims =
@@ -76,18 +76,18 @@ returns-clause-lines g c =
     let looked = c.enter_found-places.ensures.looked in
     let before = c.args.self.now in
     let at_rest = c.requires.rest in
-    let parted = c.parted.new.handle in
+    let parted = c.split_readers.new.handle in
     let after = c.enter_found-places.new.handle in
-    let last = c.gather.new.handle in
+    let last = c.join_readers.new.handle in
     let keys = key_for before.hashing in
     let texts' = c.enter_found-places.new.texts in
     let lines = lines_in c.args.block.now in
-    let settled = c.in_ok-gather.ensures.settled in
+    let settled = c.in_ok-join_readers.ensures.settled in
     on_ok_weaker c.enter_found-places.result (λ entering.
     let entered = subst (λ (m : MapOf). HasEntered m.chain.shape keys parted.seat after.seat
-    before.texts texts' lines) c.parted.ensures.same.0 entering in
+    before.texts texts' lines) c.split_readers.ensures.same.0 entering in
     let done = gathered-from before.handle parted after last c.in_ok-readers.readers.items
-    c.enter_found-places.new.readers.items settled.0 entered.made c.parted.ensures.same
+    c.enter_found-places.new.readers.items settled.0 entered.made c.split_readers.ensures.same
     c.in_ok-readers.ensures.parted looked c.enter_found-places.ensures.rest
     entered.logged settled.1 in
     let all = entered-gathered keys before.handle last before.texts texts' lines at_rest.logs
@@ -96,30 +96,30 @@ returns-clause-lines g c =
 
 pub returns-clause-map : goal.returns-clause-map
 returns-clause-map g c =
-    c.in_ok-gather.ensures.map ∙ c.enter_found-places.ensures.rest.map ∙ c.parted.ensures.same.0
+    c.in_ok-join_readers.ensures.map ∙ c.enter_found-places.ensures.rest.map ∙ c.split_readers.ensures.same.0
 
-pub returns-in_err-gather-clause-map : goal.returns-in_err-gather-clause-map
-returns-in_err-gather-clause-map g c =
-    c.in_err-gather.ensures.map ∙ c.enter_found-places.ensures.rest.map ∙ c.parted.ensures.same.0
+pub returns-in_err-join_readers-clause-map : goal.returns-in_err-join_readers-clause-map
+returns-in_err-join_readers-clause-map g c =
+    c.in_err-join_readers.ensures.map ∙ c.enter_found-places.ensures.rest.map ∙ c.split_readers.ensures.same.0
 
 pub returns-clause-full : goal.returns-clause-full
 returns-clause-full g c = λ is.
     let looked = c.enter_found-places.ensures.looked in
     let before = c.args.self.now in
     let at_rest = c.requires.rest in
-    let parted = c.parted.new.handle in
+    let parted = c.split_readers.new.handle in
     let after = c.enter_found-places.new.handle in
-    let last = c.gather.new.handle in
+    let last = c.join_readers.new.handle in
     let keys = key_for before.hashing in
     let lines = lines_in c.args.block.now in
-    let settled = c.in_ok-gather.ensures.settled in
+    let settled = c.in_ok-join_readers.ensures.settled in
     let stopped = subst (λ (m : MapOf). HasNoRoomFor m.chain.shape keys parted.seat after.seat
-    before.texts lines) c.parted.ensures.same.0 (c.enter_found-places.ensures.full is) in
+    before.texts lines) c.split_readers.ensures.same.0 (c.enter_found-places.ensures.full is) in
     stopped-gathered keys before.handle last before.texts lines before.room at_rest.logs parted.seat
     after.seat stopped
     (λ made logged. (
       gathered-from before.handle parted after last c.in_ok-readers.readers.items
-          c.enter_found-places.new.readers.items settled.0 made c.parted.ensures.same
+          c.enter_found-places.new.readers.items settled.0 made c.split_readers.ensures.same
           c.in_ok-readers.ensures.parted looked
           c.enter_found-places.ensures.rest logged settled.1,
       refl,
@@ -136,24 +136,24 @@ returns-in_err-readers-clause-stopped g c =
     subst (λ (handle : HandleOf). CanRest (record before { handle = handle }))
     (sym c.in_err-readers.ensures.refused) (rests before c.requires.rest)
 
-pub returns-in_err-gather-clause-stopped : goal.returns-in_err-gather-clause-stopped
-returns-in_err-gather-clause-stopped g c =
+pub returns-in_err-join_readers-clause-stopped : goal.returns-in_err-join_readers-clause-stopped
+returns-in_err-join_readers-clause-stopped g c =
     let before = c.args.self.now in
     let at_rest = c.requires.rest in
-    let parted = c.parted.new.handle in
+    let parted = c.split_readers.new.handle in
     let after = c.enter_found-places.new.handle in
-    let last = c.gather.new.handle in
+    let last = c.join_readers.new.handle in
     let readers' = c.enter_found-places.new.readers.items in
     let keys = key_for before.hashing in
     let texts' = c.enter_found-places.new.texts in
     let kept = c.enter_found-places.ensures.rest in
-    let back = c.in_err-gather.ensures.refused in
+    let back = c.in_err-join_readers.ensures.refused in
     let same : last.map ≡ before.handle.map
-    = c.in_err-gather.ensures.map ∙ kept.map ∙ c.parted.ensures.same.0 in
-    rests-with before texts' last (rests before at_rest) same c.in_err-gather.ensures.whole
+    = c.in_err-join_readers.ensures.map ∙ kept.map ∙ c.split_readers.ensures.same.0 in
+    rests-with before texts' last (rests before at_rest) same c.in_err-join_readers.ensures.whole
     (joined-indexed keys texts' (gathered_in after readers') last back.0 back.1
     (gathered-indexed keys before.texts texts' before.handle parted after
-    c.in_ok-readers.readers.items readers' at_rest.logs at_rest.index c.parted.ensures.same
+    c.in_ok-readers.readers.items readers' at_rest.logs at_rest.index c.split_readers.ensures.same
     c.in_ok-readers.ensures.parted c.enter_found-places.ensures.looked kept
     c.enter_found-places.ensures.index))
 
@@ -161,19 +161,19 @@ pub returns-clause-stopped : goal.returns-clause-stopped
 returns-clause-stopped g c =
     let before = c.args.self.now in
     let at_rest = c.requires.rest in
-    let parted = c.parted.new.handle in
+    let parted = c.split_readers.new.handle in
     let after = c.enter_found-places.new.handle in
-    let last = c.gather.new.handle in
+    let last = c.join_readers.new.handle in
     let readers' = c.enter_found-places.new.readers.items in
     let keys = key_for before.hashing in
     let texts' = c.enter_found-places.new.texts in
     let kept = c.enter_found-places.ensures.rest in
-    let settled = c.in_ok-gather.ensures.settled in
+    let settled = c.in_ok-join_readers.ensures.settled in
     let same : last.map ≡ before.handle.map
-    = c.in_ok-gather.ensures.map ∙ kept.map ∙ c.parted.ensures.same.0 in
-    rests-with before texts' last (rests before at_rest) same c.in_ok-gather.ensures.whole
+    = c.in_ok-join_readers.ensures.map ∙ kept.map ∙ c.split_readers.ensures.same.0 in
+    rests-with before texts' last (rests before at_rest) same c.in_ok-join_readers.ensures.whole
     (settled-indexed keys texts' after.map (gathered_in after readers') last settled.0 settled.1
     (gathered-indexed keys before.texts texts' before.handle parted after
-    c.in_ok-readers.readers.items readers' at_rest.logs at_rest.index c.parted.ensures.same
+    c.in_ok-readers.readers.items readers' at_rest.logs at_rest.index c.split_readers.ensures.same
     c.in_ok-readers.ensures.parted c.enter_found-places.ensures.looked kept
     c.enter_found-places.ensures.index))

@@ -1,7 +1,7 @@
 use Rattle.std.proofs.Common.{◌≡◌, ◌≤◌, length, vec_capacity}
 use Rattle.nb_map.specs.Handles.{IsSameMap}
 use Rattle.nb_texts.specs.Clues.{ArePartedFrom}
-use Rattle.nb_texts.proofs.catalog.parted.Given as goal
+use Rattle.nb_texts.proofs.catalog.split_readers.Given as goal
 
 abbrev pub invariant-loop : goal.invariant-loop
 invariant-loop l = record {
