@@ -17,8 +17,6 @@ mod plan;
 mod source;
 mod taking;
 mod tally;
-#[cfg(test)]
-mod tests;
 mod texts;
 
 pub use catalog::{CATALOG_EACH, Catalog};

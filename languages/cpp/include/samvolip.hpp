@@ -251,7 +251,7 @@ enum class keys : std::uint32_t {
 /* How a map is opened: a samvolip_map_options, which has the defaults that 0 stands for. */
 struct options {
     std::uint64_t room = 0;    /* for how many keys there is room at first, and at least */
-    std::uint64_t memory = 0;  /* how many bytes its tables take at most */
+    std::uint64_t memory = 0;  /* how many bytes its tables take at most; two first tables, or more */
     std::uint32_t growth = 0;  /* for how many times its keys there is room after a renewal */
     std::uint32_t threads = 0; /* how many threads have a seat of their own; others share */
     samvolip::keys keys = samvolip::keys::secret;

@@ -6,7 +6,8 @@ import java.util.Objects;
  * How a map is opened. 0 stands for the default.
  *
  * @param room for how many keys there is room at first, and at least: 1,000 by default
- * @param memory how many bytes tables take at most, old and new ones together: any number by default
+ * @param memory how many bytes tables take at most, old and new ones together: any number by default. At least two first tables, 64 KiB
+ *     with the default room
  * @param growth a renewal makes room for so many times the keys that there are, 2 to 64: 4 by default
  * @param threads how many threads have a seat of their own, up to 240: 64 by default. Others share six
  * @param keys what becomes of a key

@@ -149,7 +149,8 @@ class Map(Base, MutableMapping[int, int]):  # type: ignore[misc]
         """A map of these entries. 0 stands for the default.
 
         room: for how many keys there is room at first, and at least: 1000.
-        memory: how many bytes tables take at most, old and new ones together: any number.
+        memory: how many bytes tables take at most, old and new ones together: any number. At least two first tables: 65536 with
+            the default room.
         growth: a renewal makes room for so many times the keys that there are, 2 to 64: 4.
         threads: how many threads have a way of their own into the map, up to 240: 64. Others share six.
         keys: "secret", they are mixed with a secret of the map; "mixed", they are mixed; "as they are", nothing.

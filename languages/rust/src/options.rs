@@ -41,7 +41,8 @@ impl Options {
         Options(sys::Options { room: keys.max(1) as u64, ..self.0 })
     }
 
-    /// How many bytes the tables take at most, old and new ones together. Any number, if it isn't said.
+    /// How many bytes the tables take at most, old and new ones together. Any number, if it isn't said; two first tables, 64 KiB with
+    /// the default room, or more.
     pub fn memory(self, bytes: usize) -> Options {
         Options(sys::Options { memory: bytes.max(1) as u64, ..self.0 })
     }

@@ -2,8 +2,7 @@
 
 ghost use Rattle.nb_texts.specs.Catalogs.{IsAtRest};
 
-use crate::catalog::Catalog;
-use crate::hashing::Hashing;
+use nb_texts::{Catalog, Hashing};
 use std::alloc::Global;
 use std::process::Abort;
 use std::sync::Wait;
