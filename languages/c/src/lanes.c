@@ -2,6 +2,7 @@
    thread's end and at a fork. */
 #include "endless.h"
 
+enum { ARRIVALS = 100 };           /* tries to get the lock */
 #define SHARES (UINT64_C(1) << 63) /* beside a map's id in a thread's cell: it has no lane of its own there */
 
 static pthread_mutex_t all_lock = PTHREAD_MUTEX_INITIALIZER; /* of all maps; is locked before a map's lock */
@@ -120,11 +121,17 @@ static unsigned find_lane(const samvolip_map *map, const struct thread *owner)
 /* Inside: this thread's own lane, or 0. */
 unsigned own_lane(const samvolip_map *map) { return find_lane(map, own()); }
 
-/* Gives this thread a lane of its own, if there is one that nobody has and the lock is free: a handler waits for nobody here, and takes
-   no memory. It looks soon how full the parts are. */
+/* Gives this thread a lane of its own, if there is one that nobody has and the lock gets free within some tries: a handler waits for nobody
+   here, and takes no memory. It looks soon how full the parts are. */
 static COLD unsigned arrive(samvolip_map *map)
 {
-    if (own() == own_spare() || pthread_mutex_trylock(&map->lock) != 0)
+    bool has_lock = false;
+    for (unsigned turn = 0; turn < ARRIVALS && !has_lock && own() != own_spare(); turn++) {
+        has_lock = pthread_mutex_trylock(&map->lock) == 0;
+        if (!has_lock)
+            pause_for(turn);
+    }
+    if (!has_lock)
         return 0;
     unsigned mine = find_lane(map, NULL);
     if (mine) {

@@ -202,7 +202,11 @@ void lets_threads_come_and_go()
 {
     samvolip::map map = opened(0, 3);
     for (unsigned i = 0; i < 200; i++)
-        run_on(3, [&](unsigned) { EXPECT(map.add(7, 1).has_value() && map.figures()->own_threads >= 1); });
+        run_on(3, [&](unsigned) {
+            EXPECT(map.add(7, 1).has_value());
+            while (map.figures()->own_threads == 0) // each call tries to get one, but waits for nobody
+                std::this_thread::yield();
+        });
     EXPECT(map.figures()->own_threads == 1 && map.get(7).value() == 600u); // the seat of this thread
     map.leave();
 
