@@ -377,7 +377,11 @@ fn readers_for(bytes: usize, workers: usize) -> usize
 }
 
 /// So many handles for readers, or fewer, each with a seat out of the reserve.
-fn split_readers(alloc: Global, handle: &mut Handle, count: usize) -> Result<Vec<Handle>, OutOfMemory>
+fn split_readers(
+    alloc: Global,
+    handle: &mut Handle,
+    count: usize,
+) -> Result<Vec<Handle>, OutOfMemory>
     ensures same { IsSameMap handle.old handle.new × (handle.new.seat ≡ handle.old.seat) }
     ensures parted { IfOk result (λ readers. ArePartedFrom handle.old handle.new readers.items) }
     ensures few { IfOk result (λ readers. length readers.items ≤ count) }

@@ -211,7 +211,7 @@ static void a_fork_stops_no_map_while_another_is_renewed(void)
         fork_once(end_as_child);
         if (now() - began > 0.05) {
             waits++;
-            EXPECT(calls - before > 10000);
+            EXPECT(calls - before > 1000);
         }
         usleep(1000);
     }
