@@ -422,14 +422,6 @@ static void a_read_may_be_one_that_does_not_wait(void)
    address of a block that has the key. */
 enum { OBJECTS = 100, LIVES = 300 };
 
-/* The thread sanitizer doesn't see how the proved map orders a put and a get. */
-#ifdef __SANITIZE_THREAD__
-void __tsan_acquire(void *), __tsan_release(void *);
-#else
-#define __tsan_acquire(pointer) (void)(pointer)
-#define __tsan_release(pointer) (void)(pointer)
-#endif
-
 /* Under a pin: the key that an object has. */
 static uint64_t key_of(uint64_t number)
 {

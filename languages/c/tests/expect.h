@@ -31,6 +31,14 @@ static inline void expect_failed(const char *file, int line, const char *conditi
 #define FORKS
 #endif
 
+/* The thread sanitizer doesn't see how the proved map orders a put and a get. */
+#ifdef __SANITIZE_THREAD__
+void __tsan_acquire(void *), __tsan_release(void *);
+#else
+#define __tsan_acquire(pointer) (void)(pointer)
+#define __tsan_release(pointer) (void)(pointer)
+#endif
+
 /* How many MiB of addresses the process has, and how many of them are in memory. Of a program under a
    sanitizer, which has much memory of its own beside the program's, both are 0. */
 struct mebibytes {

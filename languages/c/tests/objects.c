@@ -33,14 +33,6 @@ static object *new_object(uint64_t key)
     return fresh;
 }
 
-/* The thread sanitizer doesn't see how the proved map orders a put and a get. */
-#ifdef __SANITIZE_THREAD__
-void __tsan_acquire(void *), __tsan_release(void *);
-#else
-#define __tsan_acquire(pointer) (void)(pointer)
-#define __tsan_release(pointer) (void)(pointer)
-#endif
-
 static void free_object(void *pointer)
 {
     object *gone = pointer;
