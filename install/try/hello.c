@@ -17,7 +17,7 @@ int main(void)
 {
     samvolip_map *map;
     pthread_t threads[THREADS];
-    uint64_t size, number;
+    uint64_t size, value;
     void *failed = NULL, *came;
     if (samvolip_version() != SAMVOLIP_VERSION || samvolip_map_open(NULL, &map) < 0)
         return 1;
@@ -27,9 +27,9 @@ int main(void)
     for (int t = 0; t < THREADS; t++)
         if (pthread_join(threads[t], &came) || (came && (failed = came)))
             return 1;
-    if (failed || samvolip_map_size(map, &size) < 0 || samvolip_map_get(map, 7, &number) != SAMVOLIP_PRESENT)
+    if (failed || samvolip_map_size(map, &size) < 0 || samvolip_map_get(map, 7, &value) != SAMVOLIP_PRESENT)
         return 1;
-    printf("%d keys, %d at 7\n", (int)size, (int)number);
+    printf("%d keys, %d at 7\n", (int)size, (int)value);
     samvolip_map_free(map);
     return 0;
 }

@@ -18,6 +18,6 @@ int main()
     for (auto &thread : threads)
         thread.join();
     samvolip::object_map<int> objects;
-    objects.put(7, std::make_unique<int>(map.get(7).value().value())).value();
+    objects.insert_or_assign(7, std::make_unique<int>(map.get(7).value().value())).value();
     std::printf("%d keys, %d at 7\n", static_cast<int>(map.size().value()), *objects.pin().get(7));
 }

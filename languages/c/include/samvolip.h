@@ -53,7 +53,7 @@
  * are multiples of 65,536 take some 30 microseconds a put. Mixed by samvolip_mix before they become
  * keys, they take 0.1. samvolip_unmix turns the keys of a walk or of an ended map back.
  *
- * Pointers. No pointer is NULL, except where the call says so. What a call writes to (a number, a
+ * Pointers. No pointer is NULL, except where the call says so. What a call writes to (a value, a
  * reply, a handle, an array) overlaps nothing else that the call is given. The library keeps no
  * pointer that was passed to it.
  *
@@ -63,7 +63,7 @@
  * exceptions: SAMVOLIP_E_LOST leaves both handles empty, and SAMVOLIP_E_ROOM of samvolip_entries
  * comes with the count.
  * (For a refused write tables may have grown, which samvolip_generation shows. Its key may also
- * keep a slot without a number, so that a later new key may find less room.)
+ * keep a slot without a value, so that a later new key may find less room.)
  *
  * Memory. samvolip_open reserves all tables of the map, and the map keeps them until it is freed.
  * samvolip_open, samvolip_split, samvolip_settle, samvolip_entries, samvolip_renew, samvolip_close
@@ -103,7 +103,7 @@ extern "C" {
 /* Version 0.9.0, as one number. samvolip_version returns that of the library. */
 #define SAMVOLIP_VERSION 0x000900u
 
-/* The greatest key and the greatest number. */
+/* The greatest key and the greatest value. */
 #define SAMVOLIP_KEY_MAX (UINT64_MAX - 2)
 #define SAMVOLIP_VALUE_MAX ((UINT64_C(1) << 60) - 1)
 
@@ -136,8 +136,8 @@ extern "C" {
 /* The result of a call. */
 enum samvolip_code {
     SAMVOLIP_OK = 0,      /* it was made */
-    SAMVOLIP_ABSENT = 0,  /* it was made, and there was no number */
-    SAMVOLIP_PRESENT = 1, /* it was made, and there was a number */
+    SAMVOLIP_ABSENT = 0,  /* it was made, and there was no value */
+    SAMVOLIP_PRESENT = 1, /* it was made, and there was a value */
 
     /* what is wrong with a shape: the first of these that applies, in this order */
     SAMVOLIP_E_TABLES = -1,    /* not 1 to 16 tables */
@@ -153,7 +153,7 @@ enum samvolip_code {
 
     /* what is wrong with a call */
     SAMVOLIP_E_KEY_RANGE = -9,    /* a key past SAMVOLIP_KEY_MAX */
-    SAMVOLIP_E_VALUE_RANGE = -10, /* a number past SAMVOLIP_VALUE_MAX */
+    SAMVOLIP_E_VALUE_RANGE = -10, /* a value past SAMVOLIP_VALUE_MAX */
     SAMVOLIP_E_WANT = -11,        /* a condition that isn't in enum samvolip_want */
     SAMVOLIP_E_CHANGE = -12,      /* a change that isn't in enum samvolip_change */
 
@@ -178,16 +178,16 @@ enum samvolip_code {
 /* What a write asks of its key. */
 enum samvolip_want {
     SAMVOLIP_ANY = 0,          /* nothing */
-    SAMVOLIP_WANT_ABSENT = 1,  /* that there is no number */
-    SAMVOLIP_WANT_PRESENT = 2, /* that there is a number */
+    SAMVOLIP_WANT_ABSENT = 1,  /* that there is no value */
+    SAMVOLIP_WANT_PRESENT = 2, /* that there is a value */
     SAMVOLIP_EQUAL = 3         /* that it is this one */
 };
 
 /* What a write does to its key, if the condition holds. */
 enum samvolip_change {
-    SAMVOLIP_PUT = 0,    /* sets it to the number */
+    SAMVOLIP_PUT = 0,    /* sets it to the value */
     SAMVOLIP_REMOVE = 1, /* removes it */
-    SAMVOLIP_ADD = 2     /* adds the number to what is there, or to 0 if there is none */
+    SAMVOLIP_ADD = 2     /* adds the value to what is there, or to 0 if there is none */
 };
 
 /*
@@ -230,7 +230,7 @@ typedef struct samvolip_ended {
 #define SAMVOLIP_SEAT_INIT {NULL, 0, 0}
 #define SAMVOLIP_ENDED_INIT {NULL}
 
-/* What a write found. If there was a number at its key, `before` is that number and `had` is 1;
+/* What a write found. If there was a value at its key, `before` is that value and `had` is 1;
    else both are 0. `matched` is 1 if the condition held, so that the write did what it does; else
    it is 0. */
 typedef struct samvolip_reply {
@@ -239,7 +239,7 @@ typedef struct samvolip_reply {
     uint32_t matched;
 } samvolip_reply;
 
-/* A key of a map, and its number. */
+/* A key of a map, and its value. */
 typedef struct samvolip_entry {
     uint64_t key;
     uint64_t number;
@@ -459,8 +459,8 @@ static inline void samvolip_free(samvolip_seat *seat)
 /* ---- calls --------------------------------------------------------------------------------- */
 
 /*
- * What is at a key. It returns SAMVOLIP_PRESENT, and the number is written; or SAMVOLIP_ABSENT, and
- * 0 is written. If the call is refused, `number` stays as it was.
+ * What is at a key. It returns SAMVOLIP_PRESENT, and the value is written; or SAMVOLIP_ABSENT, and
+ * 0 is written. If the call is refused, `value` stays as it was.
  *
  * Cost: wait-free. In the common case two loads. For a key that isn't there the search ends at the
  * first slot that no key has ever taken. In the last table, which keys may fill to the end, it gets
@@ -468,11 +468,11 @@ static inline void samvolip_free(samvolip_seat *seat)
  * 1700 to 3400 if all are. Removed keys count, too.
  * Refused: SAMVOLIP_E_KEY_RANGE.
  */
-int samvolip_get(samvolip_seat *seat, uint64_t key, uint64_t *number);
+int samvolip_get(samvolip_seat *seat, uint64_t key, uint64_t *value);
 
 /*
- * What is at each of `count` keys, in their order: each is a samvolip_get of its own. numbers[i] is
- * what is at keys[i], or `other` if nothing is there. `room` is how many numbers the array holds, at
+ * What is at each of `count` keys, in their order: each is a samvolip_get of its own. values[i] is
+ * what is at keys[i], or `other` if nothing is there. `room` is how many values the array holds, at
  * least `count`; those behind stay. If the call is refused, nothing happens.
  *
  * The loads of many keys are under way at once, so in a map larger than the processor's caches it
@@ -481,12 +481,12 @@ int samvolip_get(samvolip_seat *seat, uint64_t key, uint64_t *number);
  * Cost: wait-free. That of samvolip_get, and one load more, for each key.
  * Refused: SAMVOLIP_E_ROOM; SAMVOLIP_E_KEY_RANGE, if one of the keys is none.
  */
-int samvolip_get_many(samvolip_seat *seat, const uint64_t *keys, size_t count, uint64_t *numbers,
+int samvolip_get_many(samvolip_seat *seat, const uint64_t *keys, size_t count, uint64_t *values,
                       size_t room, uint64_t other);
 
 /*
  * The write behind all others. If what is at the key is as `want` asks, it does what `change` says,
- * in one atomic step. `old` is the number for SAMVOLIP_EQUAL. `number` is the one for the change;
+ * in one atomic step. `old` is the value for SAMVOLIP_EQUAL. `value` is the one for the change;
  * SAMVOLIP_REMOVE doesn't read it. It returns SAMVOLIP_OK, and what it found is written to `reply`.
  * If the call is refused, `reply` stays as it was. If another thread's write of the key comes in
  * between, it tries again, `tries` times in all; 0 counts as one.
@@ -499,14 +499,14 @@ int samvolip_get_many(samvolip_seat *seat, const uint64_t *keys, size_t count, u
  * SAMVOLIP_E_FULL, SAMVOLIP_E_CONTENDED, SAMVOLIP_E_SUM_RANGE.
  */
 int samvolip_put_if_match(samvolip_seat *seat, uint64_t key, uint32_t want, uint64_t old,
-                          uint32_t change, uint64_t number, uint32_t tries,
+                          uint32_t change, uint64_t value, uint32_t tries,
                           samvolip_reply *reply);
 
 /*
  * Four writes by their names, each with `tries` as samvolip_put_if_match has them. The first puts a
- * number at a key, the second puts it if there is none, the third adds it to what is there, or to 0
+ * value at a key, the second puts it if there is none, the third adds it to what is there, or to 0
  * if there is none, and the last removes the key. Each returns SAMVOLIP_PRESENT if there was a
- * number at the key, and writes that to `before`; or SAMVOLIP_ABSENT, and 0 is written. If a call
+ * value at the key, and writes that to `before`; or SAMVOLIP_ABSENT, and 0 is written. If a call
  * is refused, `before` stays as it was. samvolip_put and its like, below, are never contended, and
  * take NULL for `before`.
  *
@@ -514,11 +514,11 @@ int samvolip_put_if_match(samvolip_seat *seat, uint64_t key, uint32_t want, uint
  * Refused: SAMVOLIP_E_KEY_RANGE, SAMVOLIP_E_CONTENDED; except for samvolip_try_remove
  * SAMVOLIP_E_VALUE_RANGE and SAMVOLIP_E_FULL; and for samvolip_try_add SAMVOLIP_E_SUM_RANGE.
  */
-int samvolip_try_put(samvolip_seat *seat, uint64_t key, uint64_t number, uint32_t tries,
+int samvolip_try_put(samvolip_seat *seat, uint64_t key, uint64_t value, uint32_t tries,
                      uint64_t *before);
-int samvolip_try_put_if_absent(samvolip_seat *seat, uint64_t key, uint64_t number, uint32_t tries,
+int samvolip_try_put_if_absent(samvolip_seat *seat, uint64_t key, uint64_t value, uint32_t tries,
                                uint64_t *before);
-int samvolip_try_add(samvolip_seat *seat, uint64_t key, uint64_t number, uint32_t tries,
+int samvolip_try_add(samvolip_seat *seat, uint64_t key, uint64_t value, uint32_t tries,
                      uint64_t *before);
 int samvolip_try_remove(samvolip_seat *seat, uint64_t key, uint32_t tries, uint64_t *before);
 
@@ -576,14 +576,14 @@ void samvolip_walk(samvolip_seat *seat, samvolip_cursor *cursor);
 
 /*
  * The next key of a walk that this handle has begun. It returns SAMVOLIP_PRESENT, and the key and
- * its number are written; or SAMVOLIP_ABSENT, at the end of the walk and ever after. No key is
+ * its value are written; or SAMVOLIP_ABSENT, at the end of the walk and ever after. No key is
  * shown twice. Each key that the map has all the while is shown. A key that comes or goes meanwhile
  * may be shown or not. The keys come in no order.
  *
  * Cost: wait-free. If no table is being copied, a load for each slot on the way, and one more for
  * each key that has a slot. A key of a later table is looked for in the earlier ones as well.
  */
-int samvolip_next(samvolip_seat *seat, samvolip_cursor *cursor, uint64_t *key, uint64_t *number);
+int samvolip_next(samvolip_seat *seat, samvolip_cursor *cursor, uint64_t *key, uint64_t *value);
 
 /*
  * Begins a walk with slot `slot` of the top table, in a cursor of the caller's. Which table is the
@@ -642,10 +642,10 @@ uint64_t samvolip_ended_size(const samvolip_ended *ended);
  *
  * Refused: SAMVOLIP_E_KEY_RANGE.
  */
-int samvolip_ended_get(const samvolip_ended *ended, uint64_t key, uint64_t *number);
+int samvolip_ended_get(const samvolip_ended *ended, uint64_t key, uint64_t *value);
 
 /*
- * Writes all keys in ascending order, with their numbers, into the caller's array. It has room for
+ * Writes all keys in ascending order, with their values, into the caller's array. It has room for
  * `room` entries, and there are samvolip_ended_size of them. NULL stands for no room: it is refused
  * unless the map has no keys.
  *
@@ -686,7 +686,7 @@ static inline const char *samvolip_strerror(int code)
 {
     switch (code) {
     case SAMVOLIP_OK: return "made";
-    case SAMVOLIP_PRESENT: return "made, and there was a number";
+    case SAMVOLIP_PRESENT: return "made, and there was a value";
     case SAMVOLIP_E_TABLES: return "number of tables out of range";
     case SAMVOLIP_E_EXPONENTS: return "exponent out of range";
     case SAMVOLIP_E_FALLING: return "a table smaller than the one before it";
@@ -776,7 +776,7 @@ static inline int samvolip_should_renew(samvolip_seat *seat)
  * microseconds. So the others make several calls while they have the key's cache line, and threads
  * that write one key get on two to three times as fast.
  *
- * Each returns SAMVOLIP_PRESENT if there was a number at the key, and writes that to `before`. Else
+ * Each returns SAMVOLIP_PRESENT if there was a value at the key, and writes that to `before`. Else
  * it returns SAMVOLIP_ABSENT, and writes 0. If it is refused, `before` stays as it was. `before`
  * may be NULL. replace_if and remove_if return 1 if they did it, and else 0. The codes by which
  * each may be refused are beside it, without SAMVOLIP_.
@@ -792,11 +792,11 @@ static __attribute__((cold, noinline, unused)) int samvolip_rest(void)
 
 /* The write, again as long as it is contended, and its reply. */
 static inline int samvolip_write(samvolip_seat *seat, uint64_t key, uint32_t want, uint64_t old,
-                                 uint32_t change, uint64_t number, samvolip_reply *reply)
+                                 uint32_t change, uint64_t value, samvolip_reply *reply)
 {
     int code;
     do
-        code = samvolip_put_if_match(seat, key, want, old, change, number, 1, reply);
+        code = samvolip_put_if_match(seat, key, want, old, change, value, 1, reply);
     while (code == SAMVOLIP_E_CONTENDED && samvolip_rest());
     return code;
 }
@@ -811,54 +811,54 @@ static inline int samvolip_found(const samvolip_reply *reply, uint64_t *before)
 
 /* The same write, and whether its condition held. */
 static inline int samvolip_write_matched(samvolip_seat *seat, uint64_t key, uint64_t old,
-                                         uint32_t change, uint64_t number)
+                                         uint32_t change, uint64_t value)
 {
     samvolip_reply reply;
-    int code = samvolip_write(seat, key, SAMVOLIP_EQUAL, old, change, number, &reply);
+    int code = samvolip_write(seat, key, SAMVOLIP_EQUAL, old, change, value, &reply);
     if (code < 0)
         return code;
     return reply.matched ? 1 : 0;
 }
 
-/* Puts a number at a key. Refused: E_KEY_RANGE, E_VALUE_RANGE, E_FULL. */
-static inline int samvolip_put(samvolip_seat *seat, uint64_t key, uint64_t number,
+/* Puts a value at a key. Refused: E_KEY_RANGE, E_VALUE_RANGE, E_FULL. */
+static inline int samvolip_put(samvolip_seat *seat, uint64_t key, uint64_t value,
                                uint64_t *before)
 {
     uint64_t found;
     int code;
     do
-        code = samvolip_try_put(seat, key, number, 1, before ? before : &found);
+        code = samvolip_try_put(seat, key, value, 1, before ? before : &found);
     while (code == SAMVOLIP_E_CONTENDED && samvolip_rest());
     return code;
 }
 
-/* Puts a number at a key that has none: SAMVOLIP_ABSENT if it did. Refused as samvolip_put. */
-static inline int samvolip_put_if_absent(samvolip_seat *seat, uint64_t key, uint64_t number,
+/* Puts a value at a key that has none: SAMVOLIP_ABSENT if it did. Refused as samvolip_put. */
+static inline int samvolip_put_if_absent(samvolip_seat *seat, uint64_t key, uint64_t value,
                                          uint64_t *before)
 {
     uint64_t found;
     int code;
     do
-        code = samvolip_try_put_if_absent(seat, key, number, 1, before ? before : &found);
+        code = samvolip_try_put_if_absent(seat, key, value, 1, before ? before : &found);
     while (code == SAMVOLIP_E_CONTENDED && samvolip_rest());
     return code;
 }
 
-/* Puts a number in place of another: SAMVOLIP_PRESENT if it did. Refused: E_KEY_RANGE,
+/* Puts a value in place of another: SAMVOLIP_PRESENT if it did. Refused: E_KEY_RANGE,
    E_VALUE_RANGE. */
-static inline int samvolip_replace(samvolip_seat *seat, uint64_t key, uint64_t number,
+static inline int samvolip_replace(samvolip_seat *seat, uint64_t key, uint64_t value,
                                    uint64_t *before)
 {
     samvolip_reply reply;
-    int code = samvolip_write(seat, key, SAMVOLIP_WANT_PRESENT, 0, SAMVOLIP_PUT, number, &reply);
+    int code = samvolip_write(seat, key, SAMVOLIP_WANT_PRESENT, 0, SAMVOLIP_PUT, value, &reply);
     return code < 0 ? code : samvolip_found(&reply, before);
 }
 
-/* Puts `number` in place of `old`. Refused: E_KEY_RANGE, E_VALUE_RANGE. */
+/* Puts `value` in place of `old`. Refused: E_KEY_RANGE, E_VALUE_RANGE. */
 static inline int samvolip_replace_if(samvolip_seat *seat, uint64_t key, uint64_t old,
-                                      uint64_t number)
+                                      uint64_t value)
 {
-    return samvolip_write_matched(seat, key, old, SAMVOLIP_PUT, number);
+    return samvolip_write_matched(seat, key, old, SAMVOLIP_PUT, value);
 }
 
 /* Removes a key. Refused: E_KEY_RANGE. */
@@ -872,27 +872,27 @@ static inline int samvolip_remove(samvolip_seat *seat, uint64_t key, uint64_t *b
     return code;
 }
 
-/* Removes a key that has this number. Refused: E_KEY_RANGE, E_VALUE_RANGE. */
-static inline int samvolip_remove_if(samvolip_seat *seat, uint64_t key, uint64_t number)
+/* Removes a key that has this value. Refused: E_KEY_RANGE, E_VALUE_RANGE. */
+static inline int samvolip_remove_if(samvolip_seat *seat, uint64_t key, uint64_t value)
 {
-    return samvolip_write_matched(seat, key, number, SAMVOLIP_REMOVE, 0);
+    return samvolip_write_matched(seat, key, value, SAMVOLIP_REMOVE, 0);
 }
 
-/* Adds a number to what is at a key, or to 0 if there is none. Refused: E_KEY_RANGE,
+/* Adds a value to what is at a key, or to 0 if there is none. Refused: E_KEY_RANGE,
    E_VALUE_RANGE, E_FULL, E_SUM_RANGE. */
-static inline int samvolip_add(samvolip_seat *seat, uint64_t key, uint64_t number,
+static inline int samvolip_add(samvolip_seat *seat, uint64_t key, uint64_t value,
                                uint64_t *before)
 {
     uint64_t found;
     int code;
     do
-        code = samvolip_try_add(seat, key, number, 1, before ? before : &found);
+        code = samvolip_try_add(seat, key, value, 1, before ? before : &found);
     while (code == SAMVOLIP_E_CONTENDED && samvolip_rest());
     return code;
 }
 
 /*
- * Sets a key to *next if it is at *expected. NULL stands for no number. Like
+ * Sets a key to *next if it is at *expected. NULL stands for no value. Like
  * atomic_compare_exchange it is one step, but `reply` says what was found. It is a
  * samvolip_put_if_match, with its tries and refusals.
  */
@@ -910,31 +910,31 @@ static inline int samvolip_compare_exchange(samvolip_seat *seat, uint64_t key,
 /* These are made of the calls above, and answer as the writes by name do, except where they say
    otherwise. */
 
-/* Whether there is a number at a key: 1 or 0. Refused: E_KEY_RANGE. */
+/* Whether there is a value at a key: 1 or 0. Refused: E_KEY_RANGE. */
 static inline int samvolip_contains(samvolip_seat *seat, uint64_t key)
 {
-    uint64_t number;
-    return samvolip_get(seat, key, &number);
+    uint64_t value;
+    return samvolip_get(seat, key, &value);
 }
 
 /*
- * The number at a key, where `number` is put first if there is none. Either way, what is there then
- * is written to `there`, which may be NULL. It returns SAMVOLIP_ABSENT if it put the number. It is
+ * The value at a key, where `value` is put first if there is none. Either way, what is there then
+ * is written to `there`, which may be NULL. It returns SAMVOLIP_ABSENT if it put the value. It is
  * one samvolip_put_if_absent, and refused as that.
  */
-static inline int samvolip_get_or_insert(samvolip_seat *seat, uint64_t key, uint64_t number,
+static inline int samvolip_get_or_insert(samvolip_seat *seat, uint64_t key, uint64_t value,
                                          uint64_t *there)
 {
     uint64_t before;
-    int code = samvolip_put_if_absent(seat, key, number, &before);
+    int code = samvolip_put_if_absent(seat, key, value, &before);
     if (code >= 0 && there)
-        *there = code == SAMVOLIP_PRESENT ? before : number;
+        *there = code == SAMVOLIP_PRESENT ? before : value;
     return code;
 }
 
 /*
- * What samvolip_update makes of what it finds. `found` points to the number at the key, or is NULL
- * if there is none. It returns 1, and writes to `next` which number is to be there; or it returns
+ * What samvolip_update makes of what it finds. `found` points to the value at the key, or is NULL
+ * if there is none. It returns 1, and writes to `next` which value is to be there; or it returns
  * 0, and none is to be there; or it returns less than 0, which gives the update up. `context` is
  * what samvolip_update was given.
  */
@@ -973,36 +973,36 @@ static inline int samvolip_update(samvolip_seat *seat, uint64_t key, samvolip_up
     return had;
 }
 
-/* Puts a number at a key, unless there is one at least as great, or at least as small: by as many
+/* Puts a value at a key, unless there is one at least as great, or at least as small: by as many
    writes as others' writes of the key make it take. */
-static inline int samvolip_put_bound(samvolip_seat *seat, uint64_t key, uint64_t number,
+static inline int samvolip_put_bound(samvolip_seat *seat, uint64_t key, uint64_t value,
                                      int is_greatest, uint64_t *before)
 {
     samvolip_reply reply = {0, 0, 0};
     do {
         int code = samvolip_write(seat, key, reply.had ? SAMVOLIP_EQUAL : SAMVOLIP_WANT_ABSENT,
-                                  reply.before, SAMVOLIP_PUT, number, &reply);
+                                  reply.before, SAMVOLIP_PUT, value, &reply);
         if (code < 0)
             return code;
     } while (!reply.matched
-             && !(reply.had && (is_greatest ? reply.before >= number : reply.before <= number)));
+             && !(reply.had && (is_greatest ? reply.before >= value : reply.before <= value)));
     return samvolip_found(&reply, before);
 }
 
-/* Puts a number at a key that has a smaller one or none. It is lock-free. Refused as
+/* Puts a value at a key that has a smaller one or none. It is lock-free. Refused as
    samvolip_put. */
-static inline int samvolip_fetch_max(samvolip_seat *seat, uint64_t key, uint64_t number,
+static inline int samvolip_fetch_max(samvolip_seat *seat, uint64_t key, uint64_t value,
                                      uint64_t *before)
 {
-    return samvolip_put_bound(seat, key, number, 1, before);
+    return samvolip_put_bound(seat, key, value, 1, before);
 }
 
-/* Puts a number at a key that has a greater one or none. It is lock-free. Refused as
+/* Puts a value at a key that has a greater one or none. It is lock-free. Refused as
    samvolip_put. */
-static inline int samvolip_fetch_min(samvolip_seat *seat, uint64_t key, uint64_t number,
+static inline int samvolip_fetch_min(samvolip_seat *seat, uint64_t key, uint64_t value,
                                      uint64_t *before)
 {
-    return samvolip_put_bound(seat, key, number, 0, before);
+    return samvolip_put_bound(seat, key, value, 0, before);
 }
 
 #endif

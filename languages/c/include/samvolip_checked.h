@@ -162,29 +162,29 @@ static inline void samvolip_checked_free(samvolip_seat *seat)
     samvolip_leave(seat);
 }
 
-static inline int samvolip_checked_get(samvolip_seat *seat, uint64_t key, uint64_t *number)
+static inline int samvolip_checked_get(samvolip_seat *seat, uint64_t key, uint64_t *value)
 {
     int code;
-    samvolip_check(number != NULL, "samvolip_get", "the number is NULL");
+    samvolip_check(value != NULL, "samvolip_get", "the value is NULL");
     samvolip_enter(seat, "samvolip_get");
-    code = samvolip_get(seat, key, number);
+    code = samvolip_get(seat, key, value);
     samvolip_leave(seat);
     return code;
 }
 
 static inline int samvolip_checked_get_many(samvolip_seat *seat, const uint64_t *keys, size_t count,
-                                            uint64_t *numbers, size_t room, uint64_t other)
+                                            uint64_t *values, size_t room, uint64_t other)
 {
     int code;
-    samvolip_check(keys != NULL && numbers != NULL, "samvolip_get_many", "an array is NULL");
+    samvolip_check(keys != NULL && values != NULL, "samvolip_get_many", "an array is NULL");
     samvolip_enter(seat, "samvolip_get_many");
-    code = samvolip_get_many(seat, keys, count, numbers, room, other);
+    code = samvolip_get_many(seat, keys, count, values, room, other);
     samvolip_leave(seat);
     return code;
 }
 
 static inline int samvolip_checked_put_if_match(samvolip_seat *seat, uint64_t key, uint32_t want,
-                                                uint64_t old, uint32_t change, uint64_t number,
+                                                uint64_t old, uint32_t change, uint64_t value,
                                                 uint32_t tries, samvolip_reply *reply)
 {
     int code;
@@ -192,43 +192,43 @@ static inline int samvolip_checked_put_if_match(samvolip_seat *seat, uint64_t ke
     samvolip_check(want <= SAMVOLIP_EQUAL, "samvolip_put_if_match", "no such condition");
     samvolip_check(change <= SAMVOLIP_ADD, "samvolip_put_if_match", "no such change");
     samvolip_enter(seat, "samvolip_put_if_match");
-    code = samvolip_put_if_match(seat, key, want, old, change, number, tries, reply);
+    code = samvolip_put_if_match(seat, key, want, old, change, value, tries, reply);
     samvolip_leave(seat);
     return code;
 }
 
 static inline int samvolip_checked_try_put(samvolip_seat *seat, uint64_t key,
-                                           uint64_t number, uint32_t tries,
+                                           uint64_t value, uint32_t tries,
                                            uint64_t *before)
 {
     int code;
-    samvolip_check(before != NULL, "samvolip_try_put", "the number is NULL");
+    samvolip_check(before != NULL, "samvolip_try_put", "the value is NULL");
     samvolip_enter(seat, "samvolip_try_put");
-    code = samvolip_try_put(seat, key, number, tries, before);
+    code = samvolip_try_put(seat, key, value, tries, before);
     samvolip_leave(seat);
     return code;
 }
 
 static inline int samvolip_checked_try_put_if_absent(samvolip_seat *seat, uint64_t key,
-                                                     uint64_t number, uint32_t tries,
+                                                     uint64_t value, uint32_t tries,
                                                      uint64_t *before)
 {
     int code;
-    samvolip_check(before != NULL, "samvolip_try_put_if_absent", "the number is NULL");
+    samvolip_check(before != NULL, "samvolip_try_put_if_absent", "the value is NULL");
     samvolip_enter(seat, "samvolip_try_put_if_absent");
-    code = samvolip_try_put_if_absent(seat, key, number, tries, before);
+    code = samvolip_try_put_if_absent(seat, key, value, tries, before);
     samvolip_leave(seat);
     return code;
 }
 
 static inline int samvolip_checked_try_add(samvolip_seat *seat, uint64_t key,
-                                           uint64_t number, uint32_t tries,
+                                           uint64_t value, uint32_t tries,
                                            uint64_t *before)
 {
     int code;
-    samvolip_check(before != NULL, "samvolip_try_add", "the number is NULL");
+    samvolip_check(before != NULL, "samvolip_try_add", "the value is NULL");
     samvolip_enter(seat, "samvolip_try_add");
-    code = samvolip_try_add(seat, key, number, tries, before);
+    code = samvolip_try_add(seat, key, value, tries, before);
     samvolip_leave(seat);
     return code;
 }
@@ -237,7 +237,7 @@ static inline int samvolip_checked_try_remove(samvolip_seat *seat, uint64_t key,
                                               uint64_t *before)
 {
     int code;
-    samvolip_check(before != NULL, "samvolip_try_remove", "the number is NULL");
+    samvolip_check(before != NULL, "samvolip_try_remove", "the value is NULL");
     samvolip_enter(seat, "samvolip_try_remove");
     code = samvolip_try_remove(seat, key, tries, before);
     samvolip_leave(seat);
@@ -298,15 +298,15 @@ static inline void samvolip_checked_walk(samvolip_seat *seat, samvolip_cursor *c
 }
 
 static inline int samvolip_checked_next(samvolip_seat *seat, samvolip_cursor *cursor,
-                                        uint64_t *key, uint64_t *number)
+                                        uint64_t *key, uint64_t *value)
 {
     int code;
     samvolip_check(cursor != NULL, "samvolip_next", "the cursor is NULL");
-    samvolip_check(key != NULL && number != NULL, "samvolip_next", "the key or number is NULL");
+    samvolip_check(key != NULL && value != NULL, "samvolip_next", "the key or value is NULL");
     samvolip_enter(seat, "samvolip_next");
     samvolip_check(cursor->begun == samvolip_name_of_walks(seat), "samvolip_next",
                    "the handle has begun no such walk on this map");
-    code = samvolip_next(seat, cursor, key, number);
+    code = samvolip_next(seat, cursor, key, value);
     cursor->begun = samvolip_name_of_walks(seat);
     samvolip_leave(seat);
     return code;
@@ -348,11 +348,11 @@ static inline uint64_t samvolip_checked_ended_size(const samvolip_ended *ended)
 }
 
 static inline int samvolip_checked_ended_get(const samvolip_ended *ended, uint64_t key,
-                                             uint64_t *number)
+                                             uint64_t *value)
 {
-    samvolip_check(number != NULL, "samvolip_ended_get", "the number is NULL");
+    samvolip_check(value != NULL, "samvolip_ended_get", "the value is NULL");
     samvolip_check_ended(ended, "samvolip_ended_get");
-    return samvolip_ended_get(ended, key, number);
+    return samvolip_ended_get(ended, key, value);
 }
 
 static inline int samvolip_checked_ended_entries(const samvolip_ended *ended,

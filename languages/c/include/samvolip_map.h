@@ -5,7 +5,10 @@
  * reserved when it is opened, a removed key keeps its slot, and only threads with a seat may call.
  * This one puts a new map in its place when it gets full, larger or smaller, and gives each thread
  * its seat. This layer is C: its protocol is model-checked, its code is tested, and docs/endless.md
- * says which is which. Where numbers are addresses of objects, samvolip_objects.h frees them.
+ * says which is which. Where values are addresses of objects, samvolip_objects.h frees them.
+ *
+ *
+ * Keys and values are whole numbers: a key up to SAMVOLIP_KEY_MAX, a value up to SAMVOLIP_VALUE_MAX.
  *
  *
  * A map in four lines
@@ -42,7 +45,7 @@
  * for want of a seat.
  *
  * Signals. A handler that interrupts its thread in the middle of a call of any such map is refused
- * with SAMVOLIP_E_NESTED. Else it may read, and change the number of a key that is there, if its
+ * with SAMVOLIP_E_NESTED. Else it may read, and change the value of a key that is there, if its
  * stack has 8 KiB to spare. All other calls, a removal among them, and a first call of a thread may
  * take memory or wait for a thread that does; so a handler that may interrupt malloc or free doesn't
  * make them. In a program that forks such a handler only reads: a fork stops writes and waits for
@@ -167,7 +170,7 @@ void samvolip_map_leave(samvolip_map *map);
 
 /*
  * The calls of samvolip.h of the same names: each is one step on the map, and returns
- * SAMVOLIP_PRESENT if there was a number at the key, which is written to `number`, `before` or
+ * SAMVOLIP_PRESENT if there was a value at the key, which is written to `value`, `before` or
  * `there`, or else SAMVOLIP_ABSENT, and 0 is written. What is refused, beside E_KEY_RANGE and
  * E_NESTED, is beside each, without SAMVOLIP_.
  *
@@ -175,31 +178,31 @@ void samvolip_map_leave(samvolip_map *map);
  * the key; and of a first call of a thread a lock. get waits for nobody, but for the moment of an
  * exchange, and in a thread without a seat of its own. Writes wait for a renewal.
  */
-int samvolip_map_get(samvolip_map *map, uint64_t key, uint64_t *number);
+int samvolip_map_get(samvolip_map *map, uint64_t key, uint64_t *value);
 
 /* 1 or 0. */
 int samvolip_map_contains(samvolip_map *map, uint64_t key);
 
 /* E_VALUE_RANGE, E_OUT_OF_MEMORY */
-int samvolip_map_put(samvolip_map *map, uint64_t key, uint64_t number, uint64_t *before);
-int samvolip_map_put_if_absent(samvolip_map *map, uint64_t key, uint64_t number, uint64_t *before);
-int samvolip_map_get_or_insert(samvolip_map *map, uint64_t key, uint64_t number, uint64_t *there);
-int samvolip_map_fetch_max(samvolip_map *map, uint64_t key, uint64_t number, uint64_t *before);
-int samvolip_map_fetch_min(samvolip_map *map, uint64_t key, uint64_t number, uint64_t *before);
+int samvolip_map_put(samvolip_map *map, uint64_t key, uint64_t value, uint64_t *before);
+int samvolip_map_put_if_absent(samvolip_map *map, uint64_t key, uint64_t value, uint64_t *before);
+int samvolip_map_get_or_insert(samvolip_map *map, uint64_t key, uint64_t value, uint64_t *there);
+int samvolip_map_fetch_max(samvolip_map *map, uint64_t key, uint64_t value, uint64_t *before);
+int samvolip_map_fetch_min(samvolip_map *map, uint64_t key, uint64_t value, uint64_t *before);
 
 /* E_VALUE_RANGE, E_SUM_RANGE, E_OUT_OF_MEMORY */
-int samvolip_map_add(samvolip_map *map, uint64_t key, uint64_t number, uint64_t *before);
+int samvolip_map_add(samvolip_map *map, uint64_t key, uint64_t value, uint64_t *before);
 
 /* E_VALUE_RANGE. The second returns 1 if it did it, and else 0. */
-int samvolip_map_replace(samvolip_map *map, uint64_t key, uint64_t number, uint64_t *before);
-int samvolip_map_replace_if(samvolip_map *map, uint64_t key, uint64_t old, uint64_t number);
+int samvolip_map_replace(samvolip_map *map, uint64_t key, uint64_t value, uint64_t *before);
+int samvolip_map_replace_if(samvolip_map *map, uint64_t key, uint64_t old, uint64_t value);
 
 int samvolip_map_remove(samvolip_map *map, uint64_t key, uint64_t *before);
 
 /* 1 if it did it, and else 0. E_VALUE_RANGE */
-int samvolip_map_remove_if(samvolip_map *map, uint64_t key, uint64_t number);
+int samvolip_map_remove_if(samvolip_map *map, uint64_t key, uint64_t value);
 
-/* Sets a key to *next if it is at *expected; NULL stands for no number. It returns SAMVOLIP_OK, and
+/* Sets a key to *next if it is at *expected; NULL stands for no value. It returns SAMVOLIP_OK, and
    `reply` says what was found. E_VALUE_RANGE, E_OUT_OF_MEMORY */
 int samvolip_map_compare_exchange(samvolip_map *map, uint64_t key, const uint64_t *expected,
                                   const uint64_t *next, samvolip_reply *reply);
@@ -222,7 +225,7 @@ int samvolip_map_size(samvolip_map *map, uint64_t *size);
    sixteen words at most, in each part. */
 int samvolip_map_size_estimate(samvolip_map *map, uint64_t *size);
 
-typedef void samvolip_map_visit(void *context, uint64_t key, uint64_t number);
+typedef void samvolip_map_visit(void *context, uint64_t key, uint64_t value);
 
 /* Removes all keys in one step; then shows each of them to `visit`, unless that is NULL. Others may
    call meanwhile, and so may `visit`, which returns and does not jump out. E_OUT_OF_MEMORY */
@@ -249,9 +252,9 @@ int samvolip_map_look(samvolip_map *map, samvolip_map_figures *figures);
  * A walk over the keys: any number at once, nested or not, each by one thread at a time. Others may
  * write meanwhile, and so may the thread. A walk stays with the tables in which it began: after a
  * renewal or a clear it shows what there was then. So no key is shown twice; each key that the map
- * has all the while is shown; and with each key a number that it had at some moment of the walk.
+ * has all the while is shown; and with each key a value that it had at some moment of the walk.
  *
- * samvolip_map_walk_next returns SAMVOLIP_PRESENT, and a key and its number are written; or
+ * samvolip_map_walk_next returns SAMVOLIP_PRESENT, and a key and its value are written; or
  * SAMVOLIP_ABSENT at the end.
  *
  * Cost: memory for 128 entries; a load for each slot on the way, and a lock for every 128 slots. The
@@ -259,7 +262,7 @@ int samvolip_map_look(samvolip_map *map, samvolip_map_figures *figures);
  * Refused: E_NESTED; and by the first E_OUT_OF_MEMORY.
  */
 int samvolip_map_walk_begin(samvolip_map *map, samvolip_map_walk **walk);
-int samvolip_map_walk_next(samvolip_map_walk *walk, uint64_t *key, uint64_t *number);
+int samvolip_map_walk_next(samvolip_map_walk *walk, uint64_t *key, uint64_t *value);
 void samvolip_map_walk_end(samvolip_map_walk *walk);
 
 /* The next entries of a walk, as many as there is room for, and fewer at its end alone. It returns how many they are, or E_NESTED. */
@@ -267,16 +270,16 @@ int samvolip_map_walk_some(samvolip_map_walk *walk, samvolip_entry *entries, int
 
 /* ---- answers in one word ------------------------------------------------------------------- */
 
-/* The same calls, for languages in which it costs much to pass a pointer. Each returns the number that it would write, SAMVOLIP_NONE
+/* The same calls, for languages in which it costs much to pass a pointer. Each returns the value that it would write, SAMVOLIP_NONE
    in place of SAMVOLIP_ABSENT, or the code of a refusal. */
 #define SAMVOLIP_NONE INT64_MIN
 int64_t samvolip_map_get_word(samvolip_map *map, uint64_t key);
-int64_t samvolip_map_put_word(samvolip_map *map, uint64_t key, uint64_t number);
-int64_t samvolip_map_put_if_absent_word(samvolip_map *map, uint64_t key, uint64_t number);
-int64_t samvolip_map_fetch_max_word(samvolip_map *map, uint64_t key, uint64_t number);
-int64_t samvolip_map_fetch_min_word(samvolip_map *map, uint64_t key, uint64_t number);
-int64_t samvolip_map_add_word(samvolip_map *map, uint64_t key, uint64_t number);
-int64_t samvolip_map_replace_word(samvolip_map *map, uint64_t key, uint64_t number);
+int64_t samvolip_map_put_word(samvolip_map *map, uint64_t key, uint64_t value);
+int64_t samvolip_map_put_if_absent_word(samvolip_map *map, uint64_t key, uint64_t value);
+int64_t samvolip_map_fetch_max_word(samvolip_map *map, uint64_t key, uint64_t value);
+int64_t samvolip_map_fetch_min_word(samvolip_map *map, uint64_t key, uint64_t value);
+int64_t samvolip_map_add_word(samvolip_map *map, uint64_t key, uint64_t value);
+int64_t samvolip_map_replace_word(samvolip_map *map, uint64_t key, uint64_t value);
 int64_t samvolip_map_remove_word(samvolip_map *map, uint64_t key);
 /* A get for who holds others up meanwhile, such as a virtual machine that waits for its threads. It waits for nobody, and doesn't look
    at many slots: else it is E_WOULD_WAIT, or E_MAY_SCAN where `memory` is bounded or a renewal was refused. Then nothing was done, and
@@ -288,15 +291,15 @@ int64_t samvolip_map_size_estimate_word(samvolip_map *map);
 
 /* ---- many keys ----------------------------------------------------------------------------- */
 
-/* The calls put, add and get for so many keys, one after another, each a step of its own. `numbers` has a number for each key; of the
+/* The calls put, add and get for so many keys, one after another, each a step of its own. `values` has a value for each key; of the
    last one they are written there, `other` where there is none. Each returns how many calls were made: fewer than `count` if the next
    one is refused. The same call for that key alone says why. */
-int64_t samvolip_map_put_many(samvolip_map *map, const uint64_t *keys, const uint64_t *numbers, uint64_t count);
-int64_t samvolip_map_add_many(samvolip_map *map, const uint64_t *keys, const uint64_t *numbers, uint64_t count);
-int64_t samvolip_map_get_many(samvolip_map *map, const uint64_t *keys, uint64_t *numbers, uint64_t count, uint64_t other);
+int64_t samvolip_map_put_many(samvolip_map *map, const uint64_t *keys, const uint64_t *values, uint64_t count);
+int64_t samvolip_map_add_many(samvolip_map *map, const uint64_t *keys, const uint64_t *values, uint64_t count);
+int64_t samvolip_map_get_many(samvolip_map *map, const uint64_t *keys, uint64_t *values, uint64_t count, uint64_t other);
 
 /* samvolip_map_get_many by gets as samvolip_map_try_get_word makes them: it stops before one that would wait or may take long, too. */
-int64_t samvolip_map_try_get_many(samvolip_map *map, const uint64_t *keys, uint64_t *numbers, uint64_t count, uint64_t other);
+int64_t samvolip_map_try_get_many(samvolip_map *map, const uint64_t *keys, uint64_t *values, uint64_t count, uint64_t other);
 
 /* ------------------------------------------------------------------------------------------- */
 

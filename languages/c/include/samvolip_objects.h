@@ -1,11 +1,11 @@
 /*
  * samvolip_objects.h - objects at the keys of a samvolip_map, and when they are freed.
  *
- * A number of the map is the address of an object then. Who overwrites it, or removes its key, hands
+ * A value of the map is the address of an object then. Who overwrites it, or removes its key, hands
  * it to the map: it is freed when no thread reads it any more. docs/endless.md tells how this works.
  *
  *     samvolip_map_pin(map);                                      a reader
- *     if (samvolip_map_get(map, 7, &number) > 0) use((struct session *)number);
+ *     if (samvolip_map_get(map, 7, &value) > 0) use((struct session *)value);
  *     samvolip_map_unpin(map);
  *
  *     if (samvolip_map_ready(map) < 0) ...                        a writer
@@ -15,7 +15,7 @@
  *
  * Rules
  *
- * Addresses. Those of Linux on x86-64 are less than 2^57, and a number goes up to 2^60 - 1: so it
+ * Addresses. Those of Linux on x86-64 are less than 2^57, and a value goes up to 2^60 - 1: so it
  * has the whole pointer. One with a tag in its high bits is refused as SAMVOLIP_E_VALUE_RANGE.
  *
  * Pins. What a thread gets after it has pinned the map isn't freed before it unpins, whoever removes

@@ -846,7 +846,7 @@ static void tells_codes(void)
         int code;
         const char *text;
     } told[] = {
-        {SAMVOLIP_PRESENT, "made, and there was a number"},
+        {SAMVOLIP_PRESENT, "made, and there was a value"},
         {SAMVOLIP_OK, "made"},
         {SAMVOLIP_ABSENT, "made"},
         {SAMVOLIP_E_TABLES, "number of tables out of range"},

@@ -50,7 +50,7 @@ void churn(map &objects, std::uint64_t count, std::uint64_t live, std::uint64_t 
     std::uint64_t state = 88172645463325252u + number * 0x9e3779b97f4a7c15u;
     for (std::uint64_t i = 0; i < count; i++) {
         const std::uint64_t key = next(state) % live;
-        objects.put(key, std::make_unique<object>(key)).value();
+        objects.insert_or_assign(key, std::make_unique<object>(key)).value();
         if (i % 16 == 0)
             objects.erase(next(state) % live).value();
         const auto pin = objects.pin();
@@ -162,7 +162,7 @@ void costs(std::uint64_t rounds, std::uint64_t calls)
     map objects(options);
     samvolip_map *const native = objects.native_handle();
     for (std::uint64_t key = 0; key < 1024; key++)
-        objects.put(key, std::make_unique<object>(key)).value();
+        objects.insert_or_assign(key, std::make_unique<object>(key)).value();
     std::uint64_t number = 0, sum = 0;
     cost("nothing", rounds, calls, [&](std::uint64_t key) { sum += key; });
     cost("samvolip_map_pin and unpin", rounds, calls, [&](std::uint64_t) { samvolip_map_pin(native), samvolip_map_unpin(native); });
@@ -174,7 +174,7 @@ void costs(std::uint64_t rounds, std::uint64_t calls)
     }
     cost("new and delete", rounds, calls, [&](std::uint64_t key) { std::make_unique<object>(key); });
     cost("new, and a put over what is there", rounds, calls,
-         [&](std::uint64_t key) { objects.put(key, std::make_unique<object>(key)).value(); });
+         [&](std::uint64_t key) { objects.insert_or_assign(key, std::make_unique<object>(key)).value(); });
     samvolip::map numbers(options);
     for (std::uint64_t key = 0; key < 1024; key++)
         numbers.insert_or_assign(key, key).value();

@@ -43,7 +43,7 @@ std::vector<std::uint64_t> read_lines()
 
 bool comes_first(const samvolip::entry &a, const samvolip::entry &b)
 {
-    return a.number != b.number ? a.number > b.number : a.key < b.key;
+    return a.value != b.value ? a.value > b.value : a.key < b.key;
 }
 
 void run(unsigned threads_count, std::size_t top)

@@ -23,11 +23,9 @@ using sessions = samvolip::object_map<session>;
 // A visit, and what the page says then.
 std::string visit(sessions &all, std::uint64_t visitor)
 {
-    all.update(visitor, [&](const session *old) {
-           return std::make_unique<session>(old ? session{old->name, old->visits + 1} : session{"visitor " + std::to_string(visitor), 1});
-       }).value();
-    const auto pin = all.pin();
-    const session *mine = pin.get(visitor); // as long as the pin lives, whoever comes meanwhile
+    const auto mine = all.compute(visitor, [&](const session *old) {
+        return std::make_unique<session>(old ? session{old->name, old->visits + 1} : session{"visitor " + std::to_string(visitor), 1});
+    }).value(); // it is there as long as this has it, whoever comes meanwhile
     return mine->name + ": visit " + std::to_string(mine->visits);
 }
 

@@ -4,8 +4,8 @@
  *     samvolip::map map;
  *     // any thread calls it:
  *     map.add(7, 1).value();
- *     if (std::optional<std::uint64_t> number = map.get(7).value()) ...
- *     for (auto [key, number] : map) ...
+ *     if (std::optional<std::uint64_t> value = map.get(7).value()) ...
+ *     for (auto [key, value] : map) ...
  *
  *
  * Rules
@@ -14,8 +14,8 @@
  * destroyed while no thread calls it and no walk of it goes on. Threads that have called it may end
  * before that or after. With a map that was moved from nothing is done but to assign or destroy it.
  *
- * Numbers. Keys go up to SAMVOLIP_KEY_MAX, which is 2^64 - 3, and what is at them up to
- * SAMVOLIP_VALUE_MAX, which is 2^60 - 1.
+ * Keys go up to SAMVOLIP_KEY_MAX, which is 2^64 - 3, and values up to SAMVOLIP_VALUE_MAX, which is
+ * 2^60 - 1.
  *
  * Refusals. A call answers a result: what it has to answer, or why it was refused. A refused call
  * changes nothing. Any call may be refused with fault::nested, by a signal handler in the middle of
@@ -53,7 +53,7 @@ enum class fault : int {
     none = 0,
     out_of_memory = SAMVOLIP_E_OUT_OF_MEMORY,
     key_range = SAMVOLIP_E_KEY_RANGE,     /* a key past SAMVOLIP_KEY_MAX */
-    value_range = SAMVOLIP_E_VALUE_RANGE, /* a number past SAMVOLIP_VALUE_MAX */
+    value_range = SAMVOLIP_E_VALUE_RANGE, /* a value past SAMVOLIP_VALUE_MAX */
     sum_range = SAMVOLIP_E_SUM_RANGE,     /* the sum of an add is past it */
     nested = SAMVOLIP_E_NESTED,
     options = SAMVOLIP_E_OPTIONS, /* an option out of its range */
@@ -148,15 +148,18 @@ private:
 /* That a call was made which has nothing to answer. */
 struct done {};
 
-/* What is at a key: a number, or none. */
+/* A value, or none. */
 using found = std::optional<std::uint64_t>;
 
-/* A key and the number at it. */
-using entry = samvolip_entry;
+/* A key and its value. */
+struct entry {
+    std::uint64_t key;
+    std::uint64_t value;
+};
 
-/* The number at a key, and whether it was put there. */
+/* The value that is at a key now, and whether it was put there by this call. */
 struct emplaced {
-    std::uint64_t number;
+    std::uint64_t value;
     bool inserted;
 };
 
@@ -207,6 +210,16 @@ inline bool has_room(std::vector<entry> &all, std::size_t count)
     all.resize(count);
 #endif
     return true;
+}
+
+/* The entries as C has them. */
+inline samvolip_entry *of_c(std::vector<entry> &all) noexcept
+{
+    static_assert(sizeof(entry) == sizeof(samvolip_entry)
+                      && offsetof(entry, key) == offsetof(samvolip_entry, key)
+                      && offsetof(entry, value) == offsetof(samvolip_entry, number),
+                  "an entry of C");
+    return reinterpret_cast<samvolip_entry *>(all.data());
 }
 
 struct end {};
@@ -261,11 +274,11 @@ struct options {
    says. */
 class walk {
 public:
-    /* The next key and its number, or nothing at the end. */
+    /* The next key and its value, or nothing at the end. */
     result<std::optional<entry>> next()
     {
         entry shown{0, 0};
-        const int code = samvolip_map_walk_next(walk_.get(), &shown.key, &shown.number);
+        const int code = samvolip_map_walk_next(walk_.get(), &shown.key, &shown.value);
         return inside::answer(code, code > 0 ? std::optional<entry>(shown) : std::nullopt);
     }
 
@@ -297,68 +310,69 @@ public:
         return inside::answer(code, map(made));
     }
 
-    /* ---- one key. Refused: key_range; with a number value_range; and out_of_memory, where a key
+    /* ---- one key. Refused: key_range; with a value also value_range; and out_of_memory, where a key
        that is new needs room ---- */
 
     /* What is at a key. */
     result<found> get(std::uint64_t key) const { return told<samvolip_map_get>(key); }
 
-    /* Whether there is a number at it. */
+    /* Whether there is a value at it. */
     result<bool> contains(std::uint64_t key) const { return is_so<samvolip_map_contains>(key); }
 
-    /* Puts a number at a key, and answers whether there was none. */
-    result<bool> insert_or_assign(std::uint64_t key, std::uint64_t number)
+    /* Puts a value at a key, and answers whether there was none. */
+    result<bool> insert_or_assign(std::uint64_t key, std::uint64_t value)
     {
-        const int code = samvolip_map_put(native_handle(), key, number, nullptr);
+        const int code = samvolip_map_put(native_handle(), key, value, nullptr);
         return inside::answer(code, code == SAMVOLIP_ABSENT);
     }
 
-    /* Puts a number at a key that has none, and answers what is there then. */
-    result<emplaced> try_emplace(std::uint64_t key, std::uint64_t number)
+    /* Puts a value at a key that has none, and answers what is there then. */
+    result<emplaced> try_emplace(std::uint64_t key, std::uint64_t value)
     {
         std::uint64_t there = 0;
-        const int code = samvolip_map_get_or_insert(native_handle(), key, number, &there);
+        const int code = samvolip_map_get_or_insert(native_handle(), key, value, &there);
         return inside::answer(code, emplaced{there, code == SAMVOLIP_ABSENT});
     }
 
-    /* These answer what was at the key before. The first puts a number there, the second puts it
+    /* These answer what was at the key before. The first puts a value there, the second puts it
        in place of another, the third adds it to what is there, or to 0, and is also refused for
        sum_range. */
-    result<found> exchange(std::uint64_t key, std::uint64_t number)
+    result<found> exchange(std::uint64_t key, std::uint64_t value)
     {
-        return told<samvolip_map_put>(key, number);
+        return told<samvolip_map_put>(key, value);
     }
-    result<found> replace(std::uint64_t key, std::uint64_t number)
+    result<found> replace(std::uint64_t key, std::uint64_t value)
     {
-        return told<samvolip_map_replace>(key, number);
+        return told<samvolip_map_replace>(key, value);
     }
-    result<found> add(std::uint64_t key, std::uint64_t number)
+    result<found> add(std::uint64_t key, std::uint64_t value)
     {
-        return told<samvolip_map_add>(key, number);
-    }
-
-    /* So do these: they put a number at a key that has a smaller one, or a greater one, or none. */
-    result<found> fetch_max(std::uint64_t key, std::uint64_t number)
-    {
-        return told<samvolip_map_fetch_max>(key, number);
-    }
-    result<found> fetch_min(std::uint64_t key, std::uint64_t number)
-    {
-        return told<samvolip_map_fetch_min>(key, number);
+        return told<samvolip_map_add>(key, value);
     }
 
-    /* Removes a key, and answers what was there. */
-    result<found> erase(std::uint64_t key) { return told<samvolip_map_remove>(key); }
-
-    /* Each answers whether it did it: the first puts `number` in place of `old`, the second removes
-       a key that has this number. */
-    result<bool> replace_if(std::uint64_t key, std::uint64_t old, std::uint64_t number)
+    /* So do these: they put a value at a key that has a smaller one, or a greater one, or none. */
+    result<found> fetch_max(std::uint64_t key, std::uint64_t value)
     {
-        return is_so<samvolip_map_replace_if>(key, old, number);
+        return told<samvolip_map_fetch_max>(key, value);
     }
-    result<bool> erase_if(std::uint64_t key, std::uint64_t number)
+    result<found> fetch_min(std::uint64_t key, std::uint64_t value)
     {
-        return is_so<samvolip_map_remove_if>(key, number);
+        return told<samvolip_map_fetch_min>(key, value);
+    }
+
+    /* Each removes a key: the first answers whether there was a value, the second which. */
+    result<bool> erase(std::uint64_t key) { return is_so<samvolip_map_remove>(key, nullptr); }
+    result<found> extract(std::uint64_t key) { return told<samvolip_map_remove>(key); }
+
+    /* Each answers whether it did it: the first puts `value` in place of `old`, the second removes
+       a key that has this value. */
+    result<bool> replace_if(std::uint64_t key, std::uint64_t old, std::uint64_t value)
+    {
+        return is_so<samvolip_map_replace_if>(key, old, value);
+    }
+    result<bool> erase_if(std::uint64_t key, std::uint64_t value)
+    {
+        return is_so<samvolip_map_remove_if>(key, value);
     }
 
     /* Sets a key to `next` if it is at `expected`, and answers whether it did. If not, `expected`
@@ -411,13 +425,13 @@ public:
         return inside::answer(samvolip_map_clear(native_handle(), nullptr, nullptr), done());
     }
 
-    /* The same; then each of them is shown to a function of a key and a number, which may call the
+    /* The same; then each of them is shown to a function of a key and a value, which may call the
        map. If it throws, the program ends. */
     template <class Function> result<done> clear(Function &&function)
     {
         auto *shown = std::addressof(function);
-        samvolip_map_visit *visit = [](void *to, std::uint64_t key, std::uint64_t number) noexcept {
-            (**static_cast<decltype(shown) *>(to))(key, number);
+        samvolip_map_visit *visit = [](void *to, std::uint64_t key, std::uint64_t value) noexcept {
+            (**static_cast<decltype(shown) *>(to))(key, value);
         };
         return inside::answer(samvolip_map_clear(native_handle(), visit, &shown), done());
     }
@@ -431,7 +445,7 @@ public:
         do {
             if (!inside::has_room(all, count + count / 8 + 8))
                 return refusal(fault::out_of_memory);
-            code = samvolip_map_snapshot(native_handle(), all.data(), all.size(), &count);
+            code = samvolip_map_snapshot(native_handle(), inside::of_c(all), all.size(), &count);
         } while (code == SAMVOLIP_E_ROOM);
         all.resize(code < 0 ? 0 : count);
         return inside::answer(code, std::move(all));
@@ -467,7 +481,7 @@ public:
         return inside::answer(code, samvolip::walk(begun));
     }
 
-    /* Such a loop shows each key and its number to a function, which may call the map, and answers
+    /* Such a loop shows each key and its value to a function, which may call the map, and answers
        how many it showed. Refused: out_of_memory. */
     template <class Function> result<std::uint64_t> for_each(Function &&function) const
     {
@@ -480,19 +494,19 @@ public:
                 return next.error();
             if (!*next)
                 return shown;
-            function((*next)->key, (*next)->number);
+            function((*next)->key, (*next)->value);
         }
     }
 
-    /* Erases each key of which a predicate, a function of a key and its number, says so, in the
-       course of for_each: just with the number of which it said so. It is asked again where others'
+    /* Erases each key of which a predicate, a function of a key and its value, says so, in the
+       course of for_each: just with the value of which it said so. It is asked again where others'
        writes of the key came first. Answers how many it erased. If it is refused, some may be. */
     template <class Predicate> result<std::uint64_t> erase_if(Predicate &&predicate)
     {
         std::uint64_t erased = 0;
         refusal why;
-        const auto shown = for_each([&](std::uint64_t key, std::uint64_t number) {
-            found there = number;
+        const auto shown = for_each([&](std::uint64_t key, std::uint64_t value) {
+            found there = value;
             bool is_done = why.why() != fault::none;
             while (!is_done && there && predicate(key, *there)) {
                 const result<bool> made = compare_exchange(key, there, std::nullopt);
@@ -523,9 +537,9 @@ private:
     /* A call of C that tells what it found, and one that says whether something is so. */
     template <auto Call, class... Words> result<found> told(Words... words) const
     {
-        std::uint64_t number = 0;
-        const int code = Call(native_handle(), words..., &number);
-        return inside::answer(code, code > 0 ? found(number) : found());
+        std::uint64_t value = 0;
+        const int code = Call(native_handle(), words..., &value);
+        return inside::answer(code, code > 0 ? found(value) : found());
     }
     template <auto Call, class... Words> result<bool> is_so(Words... words) const
     {

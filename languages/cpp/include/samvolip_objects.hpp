@@ -4,7 +4,7 @@
  *
  *     samvolip::object_map<session> sessions;
  *     // any thread calls it:
- *     sessions.put(7, std::make_unique<session>("Ada")).value();
+ *     sessions.insert_or_assign(7, std::make_unique<session>("Ada")).value();
  *     {
  *         auto pin = sessions.pin();
  *         if (session *found = pin.get(7)) ...            as long as the pin lives
@@ -23,10 +23,10 @@
  * all pins are gone that there were then; all others with the map. A destructor is called by any
  * thread that calls the map, between its calls, and may call the map; it doesn't throw. Many threads
  * have the same object at once: what they change of it they agree on themselves (atomics, a lock),
- * or they put a new one in its place (update). A const map gives const objects.
+ * or they put a new one in its place (compute). A const map gives const objects.
  *
- * The number in the map underneath is the object's address, whole: an address of Linux on x86-64 is
- * less than 2^57, and a number goes up to 2^60 - 1. A pointer past that, with a tag in its high
+ * The value in the map underneath is the object's address, whole: an address of Linux on x86-64 is
+ * less than 2^57, and a value goes up to 2^60 - 1. A pointer past that, with a tag in its high
  * bits, is refused as fault::value_range.
  *
  * Refusals. They are those of samvolip.hpp. A refused call changes nothing, and an object that it
@@ -68,18 +68,18 @@ inline void tell_put(void *) noexcept {}
 inline void tell_got(void *) noexcept {}
 #endif
 
-/* The number that an object is in the map, nullptr being 0; and back. */
-template <class T> std::uint64_t number_of(T *object)
+/* The value that an object is in the map, nullptr being 0; and back. */
+template <class T> std::uint64_t value_of(T *object)
 {
     static_assert(sizeof object == sizeof(std::uint64_t), "an address is a number");
-    const std::uint64_t number = reinterpret_cast<std::uint64_t>(object);
-    if (number <= SAMVOLIP_VALUE_MAX)
+    const std::uint64_t value = reinterpret_cast<std::uint64_t>(object);
+    if (value <= SAMVOLIP_VALUE_MAX)
         tell_put(const_cast<std::remove_const_t<T> *>(object));
-    return number;
+    return value;
 }
-template <class T> T *object_of(std::uint64_t number)
+template <class T> T *object_of(std::uint64_t value)
 {
-    void *const object = reinterpret_cast<void *>(number);
+    void *const object = reinterpret_cast<void *>(value);
     tell_got(object);
     return static_cast<T *>(object);
 }
@@ -95,11 +95,11 @@ public:
        handler in the middle of a call it is refused, and that is thrown. */
     T *get(std::uint64_t key) const
     {
-        std::uint64_t number = 0;
-        int code = samvolip_map_get(map_.get(), key, &number);
+        std::uint64_t value = 0;
+        int code = samvolip_map_get(map_.get(), key, &value);
         if (code == SAMVOLIP_E_KEY_RANGE)
             code = SAMVOLIP_ABSENT;
-        return inside::answer(code, inside::object_of<T>(number)).value();
+        return inside::answer(code, inside::object_of<T>(value)).value();
     }
 
 private:
@@ -116,6 +116,48 @@ private:
     }
 
     std::unique_ptr<samvolip_map, unpins> map_;
+};
+
+/* What is at a key, or nullptr, with the pin that keeps it: what compute answers. */
+template <class T> class pinned {
+public:
+    explicit operator bool() const noexcept { return object_ != nullptr; }
+    T &operator*() const noexcept { return *object_; }
+    T *operator->() const noexcept { return object_; }
+    T *get() const noexcept { return object_; }
+
+private:
+    template <class> friend class object_map;
+
+    pinned(samvolip::pin<T> by, T *object) noexcept : pin_(std::move(by)), object_(object) {}
+
+    samvolip::pin<T> pin_;
+    T *object_;
+};
+
+/* The answer of a function of compute that leaves its key as it is. */
+struct unchanged_t {
+    explicit unchanged_t() = default;
+};
+inline constexpr unchanged_t unchanged{};
+
+/* What such a function answers: an object, to put it at the key; nullptr, to erase the key; or
+   `unchanged`. */
+template <class T> class computed {
+public:
+    template <class Made, std::enable_if_t<
+                              std::is_convertible_v<std::unique_ptr<Made>, std::unique_ptr<T>>, int> = 0>
+    computed(std::unique_ptr<Made> object) noexcept : object_(std::move(object))
+    {
+    }
+    computed(std::nullptr_t) noexcept {}
+    computed(unchanged_t) noexcept : changes_(false) {}
+
+private:
+    template <class> friend class object_map;
+
+    std::unique_ptr<T> object_;
+    bool changes_ = true;
 };
 
 /* A map from whole numbers to objects. */
@@ -147,8 +189,8 @@ public:
     ~object_map()
     {
         if (native_handle())
-            samvolip_map_each(native_handle(), [](void *, std::uint64_t, std::uint64_t number) {
-                delete inside::object_of<T>(number);
+            samvolip_map_each(native_handle(), [](void *, std::uint64_t, std::uint64_t value) {
+                delete inside::object_of<T>(value);
             }, nullptr);
     }
 
@@ -170,27 +212,29 @@ public:
     /* Whether there is an object at a key. */
     result<bool> contains(std::uint64_t key) const { return map_.contains(key); }
 
-    /* Puts an object at a key, and answers whether there was one. nullptr erases the key. */
-    result<bool> put(std::uint64_t key, std::unique_ptr<T> &&object)
+    /* Puts an object at a key, and answers whether the key is new. nullptr erases the key, which then
+       isn't. */
+    result<bool> insert_or_assign(std::uint64_t key, std::unique_ptr<T> &&object)
     {
-        if (!object)
-            return erase(key);
-        return exchange([&](std::uint64_t *before) {
-            const std::uint64_t number = inside::number_of(object.get());
-            const int code = samvolip_map_put(native_handle(), key, number, before);
+        const bool erases = !object;
+        const result<bool> had = erases ? erase(key) : exchange([&](std::uint64_t *before) {
+            const std::uint64_t value = inside::value_of(object.get());
+            const int code = samvolip_map_put(native_handle(), key, value, before);
             if (code >= 0)
                 object.release();
             return code;
         });
+        return had.has_value() ? result<bool>(!erases && !*had) : had;
     }
 
     /* Puts an object at a key that has none, and answers whether it did; if not, it is the caller's
        still. nullptr is no object. */
     result<bool> insert(std::uint64_t key, std::unique_ptr<T> &&object)
     {
+        T *none = nullptr;
         if (!object)
             return false;
-        return compare_exchange(key, nullptr, std::move(object));
+        return compare_exchange(key, none, std::move(object));
     }
 
     /* Makes an object of these arguments and puts it at a key, if that has none, and answers whether
@@ -219,24 +263,27 @@ public:
        again where another one took its place. What it throws goes through. */
     template <class Predicate> result<bool> erase_if(std::uint64_t key, Predicate &&predicate)
     {
-        return update(key, [&](const T *there) -> std::optional<std::unique_ptr<T>> {
-            if (!there || !predicate(*there))
-                return std::nullopt;
+        bool erased = false;
+        const auto left = compute(key, [&](const T *there) -> computed<T> {
+            erased = there && predicate(*there);
+            if (!erased)
+                return unchanged;
             return nullptr;
         });
+        return left.has_value() ? result<bool>(erased) : result<bool>(left.error());
     }
 
-    /* Puts an object at a key that has the `expected` one, and answers whether it did. nullptr
+    /* Puts an object at a key that has the `expected` one, and answers whether it did. If not,
+       `expected` becomes the object that is there, and the other one is the caller's still. nullptr
        stands for none: expected, for a key without an object; the object, to erase the key. A pin
-       stands since the expected one was got, so that no other object has its address. If the answer
-       is no, the object is the caller's still. */
-    result<bool> compare_exchange(std::uint64_t key, const T *expected,
-                                  std::unique_ptr<T> &&object)
+       stands since the expected one was got, so that no other object has its address. */
+    template <class As, std::enable_if_t<std::is_same_v<const As, const T>, int> = 0>
+    result<bool> compare_exchange(std::uint64_t key, As *&expected, std::unique_ptr<T> &&object)
     {
         samvolip_reply reply = {0, 0, 0};
         const result<bool> had = exchange([&](std::uint64_t *before) -> int {
             *before = reinterpret_cast<std::uint64_t>(expected);
-            const std::uint64_t next = inside::number_of(object.get());
+            const std::uint64_t next = inside::value_of(object.get());
             const int code = samvolip_map_compare_exchange(native_handle(), key,
                                                            expected ? before : nullptr,
                                                            object ? &next : nullptr, &reply);
@@ -245,27 +292,31 @@ public:
             object.release();
             return expected ? SAMVOLIP_PRESENT : SAMVOLIP_ABSENT;
         });
+        if (had.has_value() && !reply.matched)
+            expected = reply.had ? inside::object_of<As>(reply.before) : nullptr;
         return had.has_value() ? result<bool>(reply.matched == 1) : had;
     }
 
-    /* Exchanges the object at a key for what a function makes of it: a function of a const T *, which
-       is nullptr if there is none. It answers a std::unique_ptr<T>, which is empty to erase the key;
-       or a std::optional of that, which is empty to leave the key as it is. It is called again where
-       others' writes of the key came first, and may call the map; what it throws goes through.
-       Answers whether the key was written. */
-    template <class Function> result<bool> update(std::uint64_t key, Function &&function)
+    /* Does with a key what a function of its object says: a function of a const T *, which is nullptr
+       if there is none. It answers a std::unique_ptr<T> to put that there; nullptr, to erase the key;
+       or `unchanged`, to leave it as it is; where it may answer several of these, it answers a
+       computed<T>. It is called again where others' writes of the key came first, and may call the
+       map; what it throws goes through. Answers what is there then. */
+    template <class Function> result<pinned<T>> compute(std::uint64_t key, Function &&function)
     {
-        const auto pinned = std::as_const(*this).try_pin();
-        if (!pinned.has_value())
-            return pinned.error();
-        for (;;) {
-            const T *there = pinned->get(key);
-            std::optional<std::unique_ptr<T>> next = function(there);
-            if (!next || (!there && !*next))
-                return false;
-            const result<bool> made = compare_exchange(key, there, *std::move(next));
-            if (!made.has_value() || *made)
-                return made;
+        auto own = try_pin();
+        if (!own.has_value())
+            return own.error();
+        for (T *there = own->get(key);;) {
+            computed<T> next = function(static_cast<const T *>(there));
+            if (!next.changes_ || (!there && !next.object_))
+                return pinned<T>(*std::move(own), there);
+            T *const object = next.object_.get();
+            const result<bool> made = compare_exchange(key, there, std::move(next.object_));
+            if (!made.has_value())
+                return made.error();
+            if (*made)
+                return pinned<T>(*std::move(own), object);
         }
     }
 
@@ -379,7 +430,7 @@ private:
         std::uint64_t shown = 0;
         auto next = walk->next();
         for (; next.has_value() && *next; next = walk->next(), shown++)
-            function((*next)->key, *inside::object_of<As>((*next)->number));
+            function((*next)->key, *inside::object_of<As>((*next)->value));
         if (!next.has_value())
             return next.error();
         return shown;

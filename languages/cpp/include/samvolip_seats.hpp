@@ -67,18 +67,18 @@ public:
     /* What is at a key. */
     result<found> get(std::uint64_t key) const
     {
-        std::uint64_t number = 0;
-        const int code = samvolip_ended_get(&handle_, key, &number);
-        return inside::answer(code, code > 0 ? found(number) : found());
+        std::uint64_t value = 0;
+        const int code = samvolip_ended_get(&handle_, key, &value);
+        return inside::answer(code, code > 0 ? found(value) : found());
     }
 
-    /* All keys in ascending order, with their numbers. */
+    /* All keys in ascending order, with their values. */
     result<std::vector<entry>> entries() const
     {
         std::vector<entry> all;
         if (!inside::has_room(all, size()))
             return refusal(fault::out_of_memory);
-        const int code = samvolip_ended_entries(&handle_, all.data(), all.size());
+        const int code = samvolip_ended_entries(&handle_, inside::of_c(all), all.size());
         return inside::answer(code, std::move(all));
     }
 };
@@ -88,11 +88,11 @@ class seat_walk {
 public:
     explicit seat_walk(samvolip_seat *seat) : seat_(seat) { samvolip_walk(seat, &cursor_); }
 
-    /* The next key and its number, or nothing at the end. It is never refused. */
+    /* The next key and its value, or nothing at the end. It is never refused. */
     result<std::optional<entry>> next()
     {
         entry shown{0, 0};
-        const int code = samvolip_next(seat_, &cursor_, &shown.key, &shown.number);
+        const int code = samvolip_next(seat_, &cursor_, &shown.key, &shown.value);
         return inside::answer(code, code > 0 ? std::optional<entry>(shown) : std::nullopt);
     }
 
@@ -131,45 +131,46 @@ public:
 
     result<found> get(std::uint64_t key) { return told<samvolip_get>(key); }
     result<bool> contains(std::uint64_t key) { return is_so<samvolip_contains>(key); }
-    result<bool> insert_or_assign(std::uint64_t key, std::uint64_t number)
+    result<bool> insert_or_assign(std::uint64_t key, std::uint64_t value)
     {
-        const int code = samvolip_put(&handle_, key, number, nullptr);
+        const int code = samvolip_put(&handle_, key, value, nullptr);
         return inside::answer(code, code == SAMVOLIP_ABSENT);
     }
-    result<emplaced> try_emplace(std::uint64_t key, std::uint64_t number)
+    result<emplaced> try_emplace(std::uint64_t key, std::uint64_t value)
     {
         std::uint64_t there = 0;
-        const int code = samvolip_get_or_insert(&handle_, key, number, &there);
+        const int code = samvolip_get_or_insert(&handle_, key, value, &there);
         return inside::answer(code, emplaced{there, code == SAMVOLIP_ABSENT});
     }
-    result<found> exchange(std::uint64_t key, std::uint64_t number)
+    result<found> exchange(std::uint64_t key, std::uint64_t value)
     {
-        return told<samvolip_put>(key, number);
+        return told<samvolip_put>(key, value);
     }
-    result<found> replace(std::uint64_t key, std::uint64_t number)
+    result<found> replace(std::uint64_t key, std::uint64_t value)
     {
-        return told<samvolip_replace>(key, number);
+        return told<samvolip_replace>(key, value);
     }
-    result<found> add(std::uint64_t key, std::uint64_t number)
+    result<found> add(std::uint64_t key, std::uint64_t value)
     {
-        return told<samvolip_add>(key, number);
+        return told<samvolip_add>(key, value);
     }
-    result<found> fetch_max(std::uint64_t key, std::uint64_t number)
+    result<found> fetch_max(std::uint64_t key, std::uint64_t value)
     {
-        return told<samvolip_fetch_max>(key, number);
+        return told<samvolip_fetch_max>(key, value);
     }
-    result<found> fetch_min(std::uint64_t key, std::uint64_t number)
+    result<found> fetch_min(std::uint64_t key, std::uint64_t value)
     {
-        return told<samvolip_fetch_min>(key, number);
+        return told<samvolip_fetch_min>(key, value);
     }
-    result<found> erase(std::uint64_t key) { return told<samvolip_remove>(key); }
-    result<bool> replace_if(std::uint64_t key, std::uint64_t old, std::uint64_t number)
+    result<bool> erase(std::uint64_t key) { return is_so<samvolip_remove>(key, nullptr); }
+    result<found> extract(std::uint64_t key) { return told<samvolip_remove>(key); }
+    result<bool> replace_if(std::uint64_t key, std::uint64_t old, std::uint64_t value)
     {
-        return is_so<samvolip_replace_if>(key, old, number);
+        return is_so<samvolip_replace_if>(key, old, value);
     }
-    result<bool> erase_if(std::uint64_t key, std::uint64_t number)
+    result<bool> erase_if(std::uint64_t key, std::uint64_t value)
     {
-        return is_so<samvolip_remove_if>(key, number);
+        return is_so<samvolip_remove_if>(key, value);
     }
     result<bool> compare_exchange(std::uint64_t key, found &expected, found next)
     {
@@ -221,7 +222,7 @@ public:
         do {
             if (!inside::has_room(all, count))
                 return refusal(fault::out_of_memory);
-            code = samvolip_entries(&handle_, all.data(), all.size(), &count);
+            code = samvolip_entries(&handle_, inside::of_c(all), all.size(), &count);
         } while (code == SAMVOLIP_E_ROOM);
         all.resize(code < 0 ? 0 : count);
         return inside::answer(code, std::move(all));
@@ -244,9 +245,9 @@ public:
 private:
     template <auto Call, class... Words> result<found> told(Words... words)
     {
-        std::uint64_t number = 0;
-        const int code = Call(&handle_, words..., &number);
-        return inside::answer(code, code > 0 ? found(number) : found());
+        std::uint64_t value = 0;
+        const int code = Call(&handle_, words..., &value);
+        return inside::answer(code, code > 0 ? found(value) : found());
     }
     template <auto Call, class... Words> result<bool> is_so(Words... words)
     {

@@ -40,19 +40,19 @@ template <class Caller> void writes(Caller &caller)
     EXPECT(caller.get(7).value() == 6u && caller.contains(7).value());
     EXPECT(caller.exchange(7, 5).value() == 6u && caller.exchange(8, 1).value() == std::nullopt);
     const emplaced there = caller.try_emplace(8, 3).value();
-    EXPECT(there.number == 1 && !there.inserted);
-    const auto [number, inserted] = caller.try_emplace(9, 3).value();
-    EXPECT(number == 3 && inserted && caller.erase(9).value() == 3u);
+    EXPECT(there.value == 1 && !there.inserted);
+    const auto [value, inserted] = caller.try_emplace(9, 3).value();
+    EXPECT(value == 3 && inserted && caller.extract(9).value() == 3u);
     EXPECT(caller.replace(9, 1).value() == std::nullopt && !caller.contains(9).value());
     EXPECT(caller.replace(8, 2).value() == 1u);
     EXPECT(!caller.replace_if(8, 1, 3).value() && caller.replace_if(8, 2, 3).value());
     EXPECT(!caller.erase_if(8, 2).value() && caller.erase_if(8, 3).value() && !caller.erase_if(8, 3).value());
     EXPECT(caller.add(8, 4).value() == std::nullopt && caller.add(8, 4).value() == 4u);
-    EXPECT(caller.erase(8).value() == 8u && caller.erase(8).value() == std::nullopt);
+    EXPECT(caller.extract(8).value() == 8u && caller.extract(8).value() == std::nullopt && !caller.erase(8).value());
     EXPECT(caller.fetch_max(8, 3).value() == std::nullopt && caller.fetch_max(8, 2).value() == 3u);
     EXPECT(caller.fetch_max(8, 5).value() == 3u && caller.fetch_min(8, 6).value() == 5u);
     EXPECT(caller.fetch_min(8, 1).value() == 5u && caller.get(8).value() == 1u);
-    EXPECT(caller.fetch_min(9, 1).value() == std::nullopt && caller.erase(9).value() == 1u);
+    EXPECT(caller.fetch_min(9, 1).value() == std::nullopt && caller.erase(9).value() && !caller.contains(9).value());
 }
 
 template <class Caller> void exchanges(Caller &caller)
@@ -68,25 +68,25 @@ template <class Caller> void exchanges(Caller &caller)
     EXPECT(caller.compare_exchange(8, expected, SAMVOLIP_VALUE_MAX + 1).error().why() == fault::value_range && expected == 1u);
 }
 
-// a plain function as the one that makes the number
-found next_of(found number) { return number.value_or(0) + 1; }
+// a plain function as the one that makes the value
+found next_of(found value) { return value.value_or(0) + 1; }
 
 template <class Caller> void updates(Caller &caller)
 {
     unsigned times = 0;
-    auto doubled = [&times](found number) -> found {
+    auto doubled = [&times](found value) -> found {
         times++;
-        return number ? found(*number * 2) : found(1);
+        return value ? found(*value * 2) : found(1);
     };
     EXPECT(caller.update(9, doubled).value() == std::nullopt && caller.get(9).value() == 1u);
     EXPECT(caller.update(9, doubled).value() == 1u && caller.get(9).value() == 2u && times == 2);
 
     // the function calls the same map, and so comes before its own exchange
     unsigned calls = 0;
-    auto disturbed = [&](found number) -> found {
+    auto disturbed = [&](found value) -> found {
         if (calls++ < 2)
-            EXPECT(caller.add(9, 10).value() == number);
-        return *number + 1;
+            EXPECT(caller.add(9, 10).value() == value);
+        return *value + 1;
     };
     EXPECT(caller.update(9, disturbed).value() == 22u && calls == 3 && caller.get(9).value() == 23u);
     EXPECT(caller.update(9, next_of).value() == 23u && caller.update(9, &next_of).value() == 24u);
@@ -116,6 +116,7 @@ template <class Caller> void refuses(Caller &caller)
         EXPECT(is_refused(caller.insert_or_assign(key, 1), fault::key_range) && is_refused(caller.exchange(key, 1), fault::key_range));
         EXPECT(is_refused(caller.try_emplace(key, 1), fault::key_range) && is_refused(caller.replace(key, 1), fault::key_range));
         EXPECT(is_refused(caller.add(key, 1), fault::key_range) && is_refused(caller.erase(key), fault::key_range));
+        EXPECT(is_refused(caller.extract(key), fault::key_range));
         EXPECT(is_refused(caller.fetch_max(key, 1), fault::key_range) && is_refused(caller.fetch_min(key, 1), fault::key_range));
         EXPECT(is_refused(caller.replace_if(key, 1, 1), fault::key_range) && is_refused(caller.erase_if(key, 1), fault::key_range));
         EXPECT(is_refused(caller.compare_exchange(key, any, 1), fault::key_range));
@@ -166,12 +167,12 @@ void has_keys(samvolip::map &map, std::uint64_t count)
 {
     std::map<std::uint64_t, std::uint64_t> listed;
     const auto entries = map.snapshot().value();
-    for (auto [key, number] : entries)
-        EXPECT(listed.emplace(key, number).second);
+    for (auto [key, value] : entries)
+        EXPECT(listed.emplace(key, value).second);
     EXPECT(entries.size() == count && map.size().value() == count && map.size_estimate().value() == count);
     std::uint64_t shown = 0;
-    for (auto [key, number] : map) {
-        EXPECT(listed.at(key) == number && key == number * 65536 && number < count);
+    for (auto [key, value] : map) {
+        EXPECT(listed.at(key) == value && key == value * 65536 && value < count);
         shown++;
     }
     EXPECT(shown == count && !map.contains(count * 65536).value());
@@ -193,13 +194,13 @@ void grows_and_shrinks(keys how)
     EXPECT(map.renew(100000).has_value() && map.figures()->slots >= 100000 && map.figures()->renewals == figures.renewals + 1);
     has_keys(map, 20000);
     for (std::uint64_t i = 10; i < 20000; i++)
-        EXPECT(map.erase(i * 65536).value() == i);
+        EXPECT(map.extract(i * 65536).value() == i);
     EXPECT(map.renew().has_value() && map.figures()->slots == begun);
     has_keys(map, 10);
 
     std::set<std::uint64_t> gone;
-    auto visit = [&](std::uint64_t key, std::uint64_t number) {
-        EXPECT(key == number * 65536 && gone.insert(number).second && map.add(65536, 1).has_value());
+    auto visit = [&](std::uint64_t key, std::uint64_t value) {
+        EXPECT(key == value * 65536 && gone.insert(value).second && map.add(65536, 1).has_value());
     };
     EXPECT(map.clear(visit).has_value() && gone.size() == 10 && map.get(65536).value() == 10u);
     EXPECT(map.clear().has_value() && map.clear([](std::uint64_t, std::uint64_t) { std::abort(); }).has_value());
@@ -216,7 +217,7 @@ void never_fills()
     samvolip::map map;
     for (std::uint64_t i = 0; i < 100000; i++) {
         EXPECT(map.insert_or_assign(i, i).value());
-        EXPECT(i < 100 || map.erase(i - 100).value() == i - 100);
+        EXPECT(i < 100 || map.extract(i - 100).value() == i - 100);
     }
     EXPECT(map.size().value() == 100 && map.figures()->slots <= 4096);
 }
@@ -232,22 +233,22 @@ void walks(keys how)
         if (of_a >= 20)
             continue;
         for (const samvolip::entry &b : map)
-            pairs += b.number < 20 && a / 65536 == of_a && b.key / 65536 == b.number;
+            pairs += b.value < 20 && a / 65536 == of_a && b.key / 65536 == b.value;
         EXPECT(map.exchange(a, of_a).value() == of_a);
     }
     EXPECT(pairs == 400);
     for (auto at = map.begin(); at != map.end(); at++)
-        EXPECT(at->key == at->number * 65536 && !(at == map.end()) && (*at).number < 300);
+        EXPECT(at->key == at->value * 65536 && !(at == map.end()) && (*at).value < 300);
 
     // a walk shows what there was where it began, through renewals and a clear, and moves
     samvolip::walk walk = map.walk().value(), other = map.walk().value();
     std::set<std::uint64_t> shown;
-    EXPECT(shown.insert(walk.next().value()->number).second && other.next().value().has_value());
-    EXPECT(map.renew().has_value() && shown.insert(walk.next().value()->number).second);
+    EXPECT(shown.insert(walk.next().value()->value).second && other.next().value().has_value());
+    EXPECT(map.renew().has_value() && shown.insert(walk.next().value()->value).second);
     EXPECT(map.clear().has_value());
     other = std::move(walk);
     while (const auto next = other.next().value())
-        EXPECT(next->key == next->number * 65536 && shown.insert(next->number).second);
+        EXPECT(next->key == next->value * 65536 && shown.insert(next->value).second);
     EXPECT(shown.size() == 300 && !other.next().value() && map.size().value() == 0);
 }
 
@@ -258,22 +259,22 @@ void shows_and_erases(keys how)
     EXPECT(map.empty().value() && map.for_each([](std::uint64_t, std::uint64_t) { std::abort(); }).value() == 0);
     put_keys(map, 0, 300);
     std::set<std::uint64_t> seen;
-    const auto see = [&](std::uint64_t key, std::uint64_t number) {
-        EXPECT(key == number * 65536 && seen.insert(number).second && map.get(key).value() == number);
+    const auto see = [&](std::uint64_t key, std::uint64_t value) {
+        EXPECT(key == value * 65536 && seen.insert(value).second && map.get(key).value() == value);
     };
     EXPECT(map.for_each(see).value() == 300 && seen.size() == 300 && !map.empty().value());
 
     // of every four, one is written before it is erased, one is written and stays, and one is gone before
     unsigned asked = 0;
-    const auto goes = [&](std::uint64_t key, std::uint64_t number) {
+    const auto goes = [&](std::uint64_t key, std::uint64_t value) {
         asked++;
         const std::uint64_t kind = key / 65536 % 4;
-        if (number >= 1000)
+        if (value >= 1000)
             return kind == 1;
         if (kind == 3)
-            EXPECT(map.erase(key).value() == number);
+            EXPECT(map.extract(key).value() == value);
         else if (kind != 0)
-            EXPECT(map.exchange(key, number + 1000).value() == number);
+            EXPECT(map.exchange(key, value + 1000).value() == value);
         return kind != 0;
     };
     EXPECT(map.erase_if(goes).value() == 75 && asked == 75 * (1 + 2 + 2 + 1) && map.size().value() == 150);
@@ -289,8 +290,8 @@ void takes_every_key(keys how)
     for (std::uint64_t key : known)
         EXPECT(map.insert_or_assign(key, key % 1000).value());
     std::set<std::uint64_t> shown;
-    for (auto [key, number] : map)
-        EXPECT(number == key % 1000 && shown.insert(key).second && map.get(key).value() == number);
+    for (auto [key, value] : map)
+        EXPECT(value == key % 1000 && shown.insert(key).second && map.get(key).value() == value);
     EXPECT(shown == std::set<std::uint64_t>(std::begin(known), std::end(known)));
 }
 
@@ -348,7 +349,7 @@ void keeps_to_its_memory()
     std::uint64_t key = 0;
     while (map.try_emplace(key, key).has_value())
         key++;
-    EXPECT(key >= 64 && is_refused(map.try_emplace(key, key), fault::out_of_memory) && map.try_emplace(0, 1)->number == 0);
+    EXPECT(key >= 64 && is_refused(map.try_emplace(key, key), fault::out_of_memory) && map.try_emplace(0, 1)->value == 0);
     EXPECT(is_refused(map.insert_or_assign(key, 1), fault::out_of_memory) && is_refused(map.exchange(key, 1), fault::out_of_memory));
     EXPECT(is_refused(map.add(key, 1), fault::out_of_memory) && is_refused(map.fetch_max(key, 1), fault::out_of_memory));
     EXPECT(is_refused(map.update(key, next_of), fault::out_of_memory) && is_refused(map.renew(1000), fault::out_of_memory));

@@ -25,8 +25,8 @@ template <class Call> auto made(Call call)
 void has_keys(const std::vector<samvolip::entry> &entries, std::uint64_t count)
 {
     EXPECT(entries.size() == count);
-    for (auto [key, number] : entries)
-        EXPECT(key == number << 16 && number < count);
+    for (auto [key, value] : entries)
+        EXPECT(key == value << 16 && value < count);
 }
 
 // A map that grows by itself and by hand, is listed, walked over and cleared.
@@ -45,7 +45,7 @@ void of_a_map()
         made([&] { return map.renew(); });
         std::uint64_t shown = 0, sum = 0;
         for (; const auto next = walk.next().value(); shown++)
-            sum += next->key == next->number << 16 ? next->number : 0;
+            sum += next->key == next->value << 16 ? next->value : 0;
         EXPECT(shown == 200 && sum == 199 * 200 / 2);
     }
     EXPECT(map.size().value() == 200);
@@ -76,12 +76,11 @@ void of_objects()
         auto map = made([] { return samvolip::object_map<object>::open(); });
         for (std::uint64_t i = 0; i < 100; i++) {
             auto next = fresh(i);
-            made([&] { return map.put(i % 50, std::move(next)); });
-            EXPECT(!next);
+            EXPECT(made([&] { return map.insert_or_assign(i % 50, std::move(next)); }) == (i < 50) && !next);
         }
         const auto pin = made([&] { return map.try_pin(); });
         for (std::uint64_t i = 0; i < 70; i++)
-            EXPECT(made([&] { return map.update(7, [&](const object *there) { return fresh(there->number + 1); }); }));
+            EXPECT(made([&] { return map.compute(7, [&](const object *there) { return fresh(there->number + 1); }); })->number == 58 + i);
         EXPECT(pin.get(7)->number == 127);
         made([&] { return map.erase_if([](std::uint64_t key, const object &) { return key > 20; }); }); // some, if it is refused
         EXPECT(map.size().value() == 21);

@@ -49,7 +49,7 @@ static_assert(std::is_same_v<decltype(std::declval<const object_map<counted> &>(
 void puts_and_gets()
 {
     object_map<counted> map;
-    EXPECT(!map.put(7, fresh(1)).value() && map.put(7, fresh(2)).value() && map.contains(7).value());
+    EXPECT(map.insert_or_assign(7, fresh(1)).value() && !map.insert_or_assign(7, fresh(2)).value() && map.contains(7).value());
     map.collect().value();
     auto pin = map.pin();
     counted *there = pin.get(7);
@@ -64,7 +64,8 @@ void puts_and_gets()
     EXPECT(there->mark == 7 && moved.get(7) == nullptr && alive == 1 && map.object_figures()->waiting == 1);
 
     // nullptr is no object
-    EXPECT(!map.put(7, nullptr).value() && !map.put(7, fresh(4)).value() && map.put(7, nullptr).value() && !map.contains(7).value());
+    EXPECT(!map.insert_or_assign(7, nullptr).value() && map.insert_or_assign(7, fresh(4)).value());
+    EXPECT(!map.insert_or_assign(7, nullptr).value() && !map.contains(7).value());
     EXPECT(!map.insert(7, nullptr).value() && map.size().value() == 0);
 }
 
@@ -82,7 +83,7 @@ void erases()
 {
     object_map<counted> map;
     for (std::uint64_t key = 0; key < 1000; key++)
-        EXPECT(!map.put(key, fresh(key * key)).value());
+        EXPECT(map.insert_or_assign(key, fresh(key * key)).value());
     EXPECT(!map.erase_if(3, [](const counted &there) { return there.number == 3; }).value());
     EXPECT(map.erase_if(3, [](const counted &there) { return there.number == 9; }).value());
     EXPECT(!map.erase_if(3, [](const counted &) { return true; }).value());
@@ -92,11 +93,11 @@ void erases()
     EXPECT(alive == 0);
 
     // the predicate is asked about the object that is erased
-    map.put(1, fresh(1)).value();
+    map.insert_or_assign(1, fresh(1)).value();
     unsigned asked = 0;
     EXPECT(!map.erase_if(1, [&](const counted &there) {
                    if (asked++ == 0)
-                       EXPECT(map.put(1, fresh(2)).value());
+                       EXPECT(!map.insert_or_assign(1, fresh(2)).value());
                    return there.number == 1;
                }).value());
     EXPECT(asked == 2 && map.pin().get(1)->number == 2);
@@ -106,39 +107,56 @@ void exchanges()
 {
     object_map<counted> map;
     const auto pin = map.pin();
+    const counted *expected = nullptr;
     auto next = fresh(1);
-    EXPECT(map.compare_exchange(7, nullptr, std::move(next)).value() && !next);
-    const counted *first = pin.get(7);
+    EXPECT(map.compare_exchange(7, expected, std::move(next)).value() && !next && !expected);
+    const counted *const first = pin.get(7);
     next = fresh(2);
-    EXPECT(!map.compare_exchange(7, nullptr, std::move(next)).value() && next);
-    EXPECT(map.compare_exchange(7, first, std::move(next)).value() && !next && pin.get(7)->number == 2);
-    EXPECT(!map.compare_exchange(7, first, nullptr).value());
-    EXPECT(map.compare_exchange(7, pin.get(7), nullptr).value() && !map.contains(7).value());
-    EXPECT(map.compare_exchange(7, nullptr, nullptr).value() && map.object_figures()->retired == 2);
+    EXPECT(!map.compare_exchange(7, expected, std::move(next)).value() && next && expected == first); // what is there
+    EXPECT(map.compare_exchange(7, expected, std::move(next)).value() && !next && expected == first && pin.get(7)->number == 2);
+    counted *there = pin.get(7);
+    EXPECT(!map.compare_exchange(7, expected, nullptr).value() && expected == there);
+    EXPECT(map.compare_exchange(7, there, nullptr).value() && !map.contains(7).value() && there == expected);
+    EXPECT(!map.compare_exchange(7, there, fresh(3)).value() && !there && expected->mark == 7);
+    EXPECT(map.compare_exchange(7, there, nullptr).value() && map.object_figures()->retired == 2);
 }
 
-void updates()
+void computes()
 {
     object_map<counted> map;
     const auto more = [](const counted *there) { return fresh(there ? there->number + 1 : 1); };
     for (unsigned i = 0; i < 1000; i++)
-        EXPECT(map.update(7, more).value());
+        EXPECT(map.compute(7, more).value()->number == i + 1);
     EXPECT(map.pin().get(7)->number == 1000 && map.object_figures()->retired == 999);
 
-    // it erases, or leaves as it is
-    using optional = std::optional<std::unique_ptr<counted>>;
-    EXPECT(!map.update(7, [](const counted *) -> optional { return std::nullopt; }).value() && map.contains(7).value());
-    EXPECT(!map.update(8, [](const counted *) { return std::unique_ptr<counted>(); }).value());
-    EXPECT(map.update(7, [](const counted *) { return std::unique_ptr<counted>(); }).value() && !map.contains(7).value());
+    // it erases, or leaves as it is, and answers what is there then, which its own pin keeps
+    using samvolip::computed;
+    const auto leaves = [](const counted *) { return samvolip::unchanged; };
+    const auto erases = [](const counted *) { return nullptr; };
+    const auto left = map.compute(7, leaves).value();
+    EXPECT(left && left->number == 1000 && !map.compute(8, leaves).value() && !map.compute(8, erases).value());
+    EXPECT(!map.compute(7, erases).value() && !map.contains(7).value());
+    EXPECT(!map.compute(7, [](const counted *) { return std::unique_ptr<counted>(); }).value());
+    map.collect().value();
+    EXPECT(left.get()->mark == 7 && (*left).number == 1000 && alive == 1);
+    const auto each = [](const counted *there) -> computed<counted> {
+        if (!there)
+            return fresh(1);
+        if (there->number == 1)
+            return samvolip::unchanged;
+        return nullptr;
+    };
+    EXPECT(map.compute(7, each).value()->number == 1 && map.compute(7, each).value()->number == 1);
+    EXPECT(!map.insert_or_assign(7, fresh(2)).value() && !map.compute(7, each).value() && !map.contains(7).value());
 
     // the function calls the map, and so comes before its own exchange
     unsigned calls = 0;
-    EXPECT(map.update(7, [&](const counted *there) {
-                   if (calls++ < 2)
-                       map.put(7, fresh(10 * calls)).value();
-                   return fresh(there ? there->number + 1 : 1);
-               }).value());
-    EXPECT(calls == 3 && map.pin().get(7)->number == 21);
+    const auto disturbed = [&](const counted *there) {
+        if (calls++ < 2)
+            map.insert_or_assign(7, fresh(10 * calls)).value();
+        return fresh(there ? there->number + 1 : 1);
+    };
+    EXPECT(map.compute(7, disturbed).value()->number == 21 && calls == 3 && map.pin().get(7)->number == 21);
 }
 
 // ---- refusals
@@ -147,18 +165,19 @@ void refusals()
 {
     object_map<counted> map;
     auto mine = fresh(1);
-    EXPECT(map.put(SAMVOLIP_KEY_MAX + 1, std::move(mine)).error().why() == fault::key_range && mine);
+    EXPECT(map.insert_or_assign(SAMVOLIP_KEY_MAX + 1, std::move(mine)).error().why() == fault::key_range && mine);
     EXPECT(map.insert(SAMVOLIP_KEY_MAX + 1, std::move(mine)).error().why() == fault::key_range && mine);
     EXPECT(map.erase(SAMVOLIP_KEY_MAX + 1).error().why() == fault::key_range);
     EXPECT(map.try_emplace(SAMVOLIP_KEY_MAX + 1, 1u).error().why() == fault::key_range);
     EXPECT(map.contains(SAMVOLIP_KEY_MAX + 1).error().why() == fault::key_range);
-    EXPECT(map.update(SAMVOLIP_KEY_MAX + 1, [](const counted *) { return fresh(1); }).error().why() == fault::key_range);
+    EXPECT(map.compute(SAMVOLIP_KEY_MAX + 1, [](const counted *) { return fresh(1); }).error().why() == fault::key_range);
 
     // a pointer with something in its highest bits is kept whole, or refused
     object_map<const char> tagged;
     for (int bit = 60; bit < 64; bit++) {
         std::unique_ptr<const char> pointer(reinterpret_cast<const char *>(std::uint64_t{1} << bit));
-        EXPECT(tagged.put(7, std::move(pointer)).error().why() == fault::value_range && pointer && !tagged.contains(7).value());
+        EXPECT(tagged.insert_or_assign(7, std::move(pointer)).error().why() == fault::value_range && pointer);
+        EXPECT(!tagged.contains(7).value());
         EXPECT(tagged.insert(7, std::move(pointer)).error().why() == fault::value_range && pointer);
         pointer.release();
     }
@@ -181,11 +200,11 @@ void throws()
     };
     unsigned caught = 0;
     object_map<counted> map;
-    map.put(7, fresh(1)).value();
+    map.insert_or_assign(7, fresh(1)).value();
     object_map<made> others;
     const auto attempts = {
         +[](object_map<counted> &to, object_map<made> &) {
-            to.update(7, [](const counted *) -> std::unique_ptr<counted> { throw thrown(); }).value();
+            to.compute(7, [](const counted *) -> std::unique_ptr<counted> { throw thrown(); }).value();
         },
         +[](object_map<counted> &to, object_map<made> &) { to.erase_if(7, [](const counted &) -> bool { throw thrown(); }).value(); },
         +[](object_map<counted> &to, object_map<made> &) {
@@ -201,7 +220,7 @@ void throws()
             caught++;
         }
     EXPECT(caught == 5 && map.pin().get(7)->number == 1 && others.size().value() == 0);
-    map.put(7, fresh(2)).value();
+    map.insert_or_assign(7, fresh(2)).value();
     map.collect().value();
     EXPECT(alive == 1); // no pin has stayed
 #endif
@@ -213,7 +232,7 @@ void walks()
 {
     object_map<counted> map;
     for (std::uint64_t key = 0; key < 3000; key++)
-        map.put(key, fresh(key)).value();
+        map.insert_or_assign(key, fresh(key)).value();
     std::uint64_t sum = 0;
     EXPECT(map.for_each([](std::uint64_t, counted &there) { there.number++; }).value() == 3000);
     EXPECT(std::as_const(map).for_each([&](std::uint64_t key, const counted &there) { sum += there.number - key; }).value() == 3000);
@@ -223,7 +242,7 @@ void walks()
     std::uint64_t shown = 0;
     map.for_each([&](std::uint64_t key, counted &there) {
            EXPECT(there.mark == 7 && there.number == key + 1);
-           map.put(key, fresh(key)).value();
+           map.insert_or_assign(key, fresh(key)).value();
            map.erase(key).value();
            if (shown++ == 1000)
                map.renew().value();
@@ -239,16 +258,16 @@ void walks()
 void moves()
 {
     object_map<counted> one, other;
-    one.put(1, fresh(1)).value();
-    one.put(1, fresh(2)).value(); // one is retired
-    other.put(2, fresh(3)).value();
+    one.insert_or_assign(1, fresh(1)).value();
+    one.insert_or_assign(1, fresh(2)).value(); // one is retired
+    other.insert_or_assign(2, fresh(3)).value();
     other = std::move(one);
     EXPECT(other.pin().get(1)->number == 2 && !other.contains(2).value());
     object_map<counted> third(std::move(other));
     EXPECT(third.pin().get(1)->number == 2);
     third.leave();
     auto opened = object_map<counted>::open();
-    opened->put(1, fresh(4)).value();
+    opened->insert_or_assign(1, fresh(4)).value();
 }
 
 struct shape {
@@ -277,18 +296,18 @@ void other_objects()
 {
     {
         object_map<shape> shapes;
-        shapes.put(1, std::make_unique<square>()).value();
-        shapes.put(1, std::make_unique<square>()).value();
+        shapes.insert_or_assign(1, std::make_unique<square>()).value();
+        shapes.insert_or_assign(1, std::make_unique<square>()).value();
         EXPECT(shapes.pin().get(1)->corners() == 4);
         object_map<const counted> constant;
-        constant.put(1, fresh(1)).value();
-        constant.update(1, [](const counted *there) { return fresh(there->number + 1); }).value();
+        constant.insert_or_assign(1, fresh(1)).value();
+        constant.compute(1, [](const counted *there) { return fresh(there->number + 1); }).value();
         EXPECT(constant.pin().get(1)->number == 2);
     }
     EXPECT(alive == 0);
     object_map<link> links;
     for (std::uint64_t key = 1; key < 500; key++)
-        links.put(key, std::make_unique<link>(&links, key + 1)).value();
+        links.insert_or_assign(key, std::make_unique<link>(&links, key + 1)).value();
     links.erase(1).value();
     for (unsigned i = 0; i < 500; i++)
         links.collect().value();
@@ -317,9 +336,9 @@ void counts_through_renewals()
     std::atomic<std::uint64_t> expired{0}, erased{0}, put{0};
     run_on(threads, [&](unsigned number) {
         for (std::uint64_t i = 0; i < rounds; i++) {
-            map.update(i % keys, [](const counted *there) { return fresh(there ? there->number + 1 : 1); }).value();
+            map.compute(i % keys, [](const counted *there) { return fresh(there ? there->number + 1 : 1); }).value();
             const std::uint64_t mine = 1000 * (number + 1) + i % 100;
-            put += !map.put(mine, fresh(i)).value();
+            put += map.insert_or_assign(mine, fresh(i)).value();
             const auto pin = map.pin();
             for (unsigned other = 0; other < threads; other++)
                 if (const counted *there = pin.get(1000 * (other + 1) + i % 100))
@@ -345,7 +364,7 @@ void counts_through_renewals()
 int main(int count, char **words)
 {
     rounds = count > 1 ? static_cast<unsigned>(std::strtoul(words[1], nullptr, 10)) : rounds;
-    for (auto test : {puts_and_gets, emplaces, erases, exchanges, updates, refusals, throws, walks,
+    for (auto test : {puts_and_gets, emplaces, erases, exchanges, computes, refusals, throws, walks,
                      moves, other_objects, counts_through_renewals}) {
         test();
         EXPECT(alive == 0);

@@ -31,12 +31,12 @@ template <class T> bool is_refused(const samvolip::result<T> &answer, fault why)
 void has_keys(samvolip::seat &seat, std::uint64_t count)
 {
     std::map<std::uint64_t, std::uint64_t> listed;
-    for (auto [key, number] : seat.entries().value())
-        EXPECT(listed.emplace(key, number).second);
+    for (auto [key, value] : seat.entries().value())
+        EXPECT(listed.emplace(key, value).second);
     EXPECT(listed.size() == count && seat.settle().value() == count && seat.size_estimate() == count);
     std::uint64_t shown = 0;
-    for (auto [key, number] : seat) {
-        EXPECT(listed.at(key) == number && key == 2 * number && number < count);
+    for (auto [key, value] : seat) {
+        EXPECT(listed.at(key) == value && key == 2 * value && value < count);
         shown++;
     }
     EXPECT(shown == count && !seat.contains(2 * count).value());
@@ -72,7 +72,7 @@ void opens_and_ends()
     const auto entries = moved.entries().value();
     EXPECT(!ended && entries.size() == 300);
     for (std::uint64_t i = 0; i < 300; i++)
-        EXPECT(entries[i].key == 2 * i && entries[i].number == i);
+        EXPECT(entries[i].key == 2 * i && entries[i].value == i);
     ended = std::move(moved);
     EXPECT(ended.size() == 300 && !moved);
 }
@@ -86,7 +86,7 @@ void fills_and_renews()
         EXPECT(seat.add(2 * i, i).value() == std::nullopt);
     EXPECT(is_refused(seat.insert_or_assign(99, 1), fault::full) && is_refused(seat.exchange(99, 1), fault::full));
     EXPECT(is_refused(seat.try_emplace(99, 1), fault::full) && is_refused(seat.fetch_min(99, 1), fault::full));
-    EXPECT(seat.should_renew() && seat.try_emplace(6, 1)->number == 3);
+    EXPECT(seat.should_renew() && seat.try_emplace(6, 1)->value == 3);
     has_keys(seat, 16);
 
     // refused, and the map is as it was; then larger, with more seats; then smaller
@@ -103,7 +103,7 @@ void fills_and_renews()
     for (samvolip::seat &one : others)
         EXPECT(seat.join(std::move(one)).has_value() && !one);
     for (std::uint64_t i = 10; i < 200; i++)
-        EXPECT(seat.erase(2 * i).value() == i);
+        EXPECT(seat.extract(2 * i).value() == i);
     EXPECT(seat.renew(small).has_value() && !seat.should_renew());
     has_keys(seat, 10);
 
@@ -120,7 +120,7 @@ void walks()
     std::uint64_t pairs = 0;
     for (auto [a, of_a] : seat)
         for (const samvolip::entry &b : seat)
-            pairs += a == of_a && b.key == b.number;
+            pairs += a == of_a && b.key == b.value;
     EXPECT(pairs == 10000);
     samvolip::seat_walk walk = seat.walk();
     EXPECT(walk.next().value().has_value());

@@ -100,7 +100,7 @@ void adds_through_renewals()
             const found before = map.add(key, 1 + i % 3).value();
             added[number][key] += 1 + i % 3;
             EXPECT(map.get(key).value().value() >= before.value_or(0) + 1 + i % 3);
-            EXPECT(map.insert_or_assign(mine, i).value() && (i < 50 || map.erase(mine - 50).value() == i - 50));
+            EXPECT(map.insert_or_assign(mine, i).value() && (i < 50 || map.extract(mine - 50).value() == i - 50));
             if (i % (rounds / 4 + 1) != number)
                 continue;
             std::uint64_t shown = 0;
@@ -131,8 +131,8 @@ void clears_beside_writers()
     samvolip::map map = opened(10, 2);
     std::atomic<unsigned> at_work{writers};
     std::vector<bool> seen(writers * each);
-    auto take = [&](std::uint64_t key, std::uint64_t number) {
-        EXPECT(number == key + 1 && !seen[key]);
+    auto take = [&](std::uint64_t key, std::uint64_t value) {
+        EXPECT(value == key + 1 && !seen[key]);
         seen[key] = true;
     };
     run_on(writers + 1, [&](unsigned number) {

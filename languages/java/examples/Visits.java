@@ -16,8 +16,8 @@ public final class Visits {
 
             visits.removeIf((visitor, times) -> times < 100); // who came rarely is forgotten
             List<Entry> busiest = visits.snapshot();
-            busiest.sort(Comparator.comparing(Entry::number).reversed());
-            for (Entry visit : busiest.subList(0, 3)) System.out.println("visitor " + visit.key() + " came " + visit.number() + " times");
+            busiest.sort(Comparator.comparing(Entry::value).reversed());
+            for (Entry visit : busiest.subList(0, 3)) System.out.println("visitor " + visit.key() + " came " + visit.value() + " times");
         }
     }
 

@@ -63,7 +63,7 @@ final class BoxedMap extends AbstractMap<Long, Long> implements ConcurrentMap<Lo
 
     @Override
     public boolean containsValue(Object value) {
-        return isValue(requireNonNull(value)) && map.any((key, number) -> number == (Long) value);
+        return isValue(requireNonNull(value)) && map.any((key, there) -> there == (Long) value);
     }
 
     @Override
@@ -83,8 +83,8 @@ final class BoxedMap extends AbstractMap<Long, Long> implements ConcurrentMap<Lo
 
     @Override
     public boolean replace(Long key, Long old, Long value) {
-        long at = key(key), number = value(value);
-        return isValue(requireNonNull(old)) && map.replace(at, old, number);
+        long at = key(key), next = value(value);
+        return isValue(requireNonNull(old)) && map.replace(at, old, next);
     }
 
     @Override
@@ -120,7 +120,7 @@ final class BoxedMap extends AbstractMap<Long, Long> implements ConcurrentMap<Lo
 
     /** One of the three views, which shows a part of each entry. */
     private abstract class View<E> extends AbstractCollection<E> {
-        abstract E part(long key, long number);
+        abstract E part(long key, long value);
 
         @Override
         public Iterator<E> iterator() {
@@ -137,7 +137,7 @@ final class BoxedMap extends AbstractMap<Long, Long> implements ConcurrentMap<Lo
                 public E next() {
                     samvolip.Entry next = walk.next();
                     last = next.key();
-                    return part(last, next.number());
+                    return part(last, next.value());
                 }
 
                 @Override
@@ -170,7 +170,7 @@ final class BoxedMap extends AbstractMap<Long, Long> implements ConcurrentMap<Lo
         @Override
         public boolean removeIf(Predicate<? super E> test) {
             requireNonNull(test);
-            return map.removeIf((key, number) -> test.test(part(key, number))) > 0;
+            return map.removeIf((key, value) -> test.test(part(key, value))) > 0;
         }
     }
 
@@ -191,7 +191,7 @@ final class BoxedMap extends AbstractMap<Long, Long> implements ConcurrentMap<Lo
     public Set<Long> keySet() {
         return new SetView<>() {
             @Override
-            Long part(long key, long number) {
+            Long part(long key, long value) {
                 return key;
             }
 
@@ -210,7 +210,7 @@ final class BoxedMap extends AbstractMap<Long, Long> implements ConcurrentMap<Lo
             public boolean removeIf(Predicate<? super Long> test) {
                 requireNonNull(test);
                 boolean[] removed = new boolean[1];
-                BoxedMap.this.forEach((key, number) -> removed[0] |= test.test(key) && remove(key));
+                BoxedMap.this.forEach((key, value) -> removed[0] |= test.test(key) && remove(key));
                 return removed[0];
             }
         };
@@ -220,8 +220,8 @@ final class BoxedMap extends AbstractMap<Long, Long> implements ConcurrentMap<Lo
     public Collection<Long> values() {
         return new View<>() {
             @Override
-            Long part(long key, long number) {
-                return number;
+            Long part(long key, long value) {
+                return value;
             }
 
             @Override
@@ -231,7 +231,7 @@ final class BoxedMap extends AbstractMap<Long, Long> implements ConcurrentMap<Lo
 
             @Override
             public boolean remove(Object value) {
-                return isValue(value) && map.any((key, number) -> number == (Long) value && map.remove(key, number));
+                return isValue(value) && map.any((key, there) -> there == (Long) value && map.remove(key, there));
             }
         };
     }
@@ -240,8 +240,8 @@ final class BoxedMap extends AbstractMap<Long, Long> implements ConcurrentMap<Lo
     public Set<Map.Entry<Long, Long>> entrySet() {
         return new SetView<>() {
             @Override
-            Map.Entry<Long, Long> part(long key, long number) {
-                return new SimpleEntry<>(key, number) {
+            Map.Entry<Long, Long> part(long key, long value) {
+                return new SimpleEntry<>(key, value) {
                     @Override
                     public Long setValue(Long value) {
                         put(getKey(), value);

@@ -1,9 +1,9 @@
 package samvolip;
 
-/** A key and its number, both unsigned. */
-public record Entry(long key, long number) {
+/** A key and its value, both unsigned. */
+public record Entry(long key, long value) {
     @Override
     public String toString() {
-        return Long.toUnsignedString(key) + "=" + number;
+        return Long.toUnsignedString(key) + "=" + value;
     }
 }

@@ -11,7 +11,7 @@ final class Functions {
 
     static final int PRESENT = 1;
 
-    /** What a call answers where there is no number. */
+    /** What a call answers where there is no value. */
     static final long NONE = Long.MIN_VALUE;
 
     /** What TRY_GET answers where GET is the call to make, of which the virtual machine is told: it may wait, or look at many slots. */

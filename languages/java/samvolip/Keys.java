@@ -9,6 +9,6 @@ public enum Keys {
     /** Nothing. That is faster for keys that are numbered from 0 on, and slow for keys that share their low bits. */
     AS_THEY_ARE;
 
-    /** The greatest key and the greatest number, both unsigned. */
+    /** The greatest key and the greatest value, both unsigned. */
     public static final long KEY_MAX = -3L, VALUE_MAX = (1L << 60) - 1;
 }

@@ -9,7 +9,7 @@ import java.util.function.IntConsumer;
 final class Many {
     private Many() {}
 
-    /** A part whose keys and numbers are copied to C's memory; and one of reads without a copy, during which the virtual machine waits. */
+    /** A part whose keys and values are copied to C's memory; and one of reads without a copy, during which the virtual machine waits. */
     private static final int COPIED = 4096, SHORT = 256;
 
     /** Makes the calls for so many keys from a place on, up to one that is refused, and answers how many those are. */
@@ -39,15 +39,15 @@ final class Many {
         }
     }
 
-    /** The same by parts that are copied. C has the keys of a part at `words`, and its numbers behind them. */
+    /** The same by parts that are copied. C has the keys of a part at `words`, and its values behind them. */
     private static void copied(SamvolipMap map, long[] keys, CopiedPart part, IntConsumer alone) {
         if (keys.length == 0) return;
         int most = Math.min(COPIED, keys.length);
-        long words = Native.allocate(16L * most), numbers = words + 8L * most;
+        long words = Native.allocate(16L * most), values = words + 8L * most;
         try {
             all(map, keys.length, most, (from, count) -> {
                 Native.write(keys, from, count, words);
-                return part.make(words, numbers, from, count);
+                return part.make(words, values, from, count);
             }, alone);
         } finally {
             Native.free(words);
@@ -56,25 +56,25 @@ final class Many {
 
     @FunctionalInterface
     private interface CopiedPart {
-        long make(long words, long numbers, int from, int count) throws Throwable;
+        long make(long words, long values, int from, int count) throws Throwable;
     }
 
     /** Writes the keys by C's function for many. */
-    static void write(SamvolipMap map, MethodHandle call, long[] keys, long[] numbers, IntConsumer alone) {
+    static void write(SamvolipMap map, MethodHandle call, long[] keys, long[] values, IntConsumer alone) {
         long at = map.at();
-        if (keys.length != numbers.length)
-            throw new IllegalArgumentException("there are " + keys.length + " keys, and " + numbers.length + " numbers");
+        if (keys.length != values.length)
+            throw new IllegalArgumentException("there are " + keys.length + " keys, and " + values.length + " values");
         copied(map, keys, (words, into, from, count) -> {
-            Native.write(numbers, from, count, into);
+            Native.write(values, from, count, into);
             return (long) call.invokeExact(at, words, into, (long) count);
         }, alone);
     }
 
-    /** The same with one number for all keys. */
-    static void write(SamvolipMap map, MethodHandle call, long[] keys, long number, IntConsumer alone) {
+    /** The same with one value for all keys. */
+    static void write(SamvolipMap map, MethodHandle call, long[] keys, long value, IntConsumer alone) {
         long at = map.at();
         long[] same = new long[Math.min(COPIED, keys.length)];
-        Arrays.fill(same, number);
+        Arrays.fill(same, value);
         copied(map, keys, (words, into, from, count) -> {
             if (from == 0) Native.write(same, 0, count, into);
             return (long) call.invokeExact(at, words, into, (long) count);
@@ -89,9 +89,9 @@ final class Many {
         if (Native.TAKES_ARRAYS && isShort) {
             all(map, keys.length, SHORT, (from, count) -> Native.getMany(at, keys, found, from, count, other), alone);
         } else {
-            copied(map, keys, (words, numbers, from, count) -> {
-                long made = (long) Functions.GET_MANY.invokeExact(at, words, numbers, (long) count, other);
-                Native.read(numbers, found, from, (int) made);
+            copied(map, keys, (words, values, from, count) -> {
+                long made = (long) Functions.GET_MANY.invokeExact(at, words, values, (long) count, other);
+                Native.read(values, found, from, (int) made);
                 return made;
             }, alone);
         }

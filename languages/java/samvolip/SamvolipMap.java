@@ -19,10 +19,10 @@ import java.util.function.LongUnaryOperator;
 import java.util.function.UnaryOperator;
 
 /**
- * A map from numbers to numbers that any thread may call, platform or virtual, with the calls of java.util.concurrent.ConcurrentMap on
- * longs. It begins small, grows and shrinks, and its memory is outside of Java's heap.
+ * A map from whole numbers to whole numbers that any thread may call, platform or virtual, with the calls of
+ * java.util.concurrent.ConcurrentMap on longs. It begins small, grows and shrinks, and its memory is outside of Java's heap.
  *
- * <p>Keys and numbers are unsigned: a key past {@link Keys#KEY_MAX} is refused as {@link Code#E_KEY_RANGE}, a number past
+ * <p>Keys and values are unsigned: a key past {@link Keys#KEY_MAX} is refused as {@link Code#E_KEY_RANGE}, a value past
  * {@link Keys#VALUE_MAX} as {@link Code#E_VALUE_RANGE}. A write of a new key is refused as {@link Code#E_OUT_OF_MEMORY} if all slots are
  * taken and there is no memory for more.
  *
@@ -36,16 +36,16 @@ public final class SamvolipMap implements AutoCloseable, Iterable<Entry> {
     /** Whether its table may come to be full, as memory is bounded or was refused: then a read of a key that isn't there may take long. */
     private boolean mayBeFull;
 
-    /** What a call does with each key and its number. */
+    /** What a call does with each key and its value. */
     @FunctionalInterface
     public interface EntryConsumer {
-        void accept(long key, long number);
+        void accept(long key, long value);
     }
 
-    /** What {@link #removeIf} asks of each key and its number. */
+    /** What {@link #removeIf} asks of each key and its value. */
     @FunctionalInterface
     public interface EntryPredicate {
-        boolean test(long key, long number);
+        boolean test(long key, long value);
     }
 
     /** An empty map. */
@@ -124,7 +124,7 @@ public final class SamvolipMap implements AutoCloseable, Iterable<Entry> {
         return word == Functions.MAY_SCAN || word == Functions.WOULD_WAIT ? (long) Functions.GET.invokeExact(at(), key) : word;
     }
 
-    /** What is at a key, or another number. */
+    /** What is at a key, or another value. */
     public long getOrDefault(long key, long other) {
         try {
             long word = made(read(key));
@@ -136,15 +136,15 @@ public final class SamvolipMap implements AutoCloseable, Iterable<Entry> {
         }
     }
 
-    /** Whether there is a number at a key. */
+    /** Whether there is a value at a key. */
     public boolean containsKey(long key) {
         return getOrDefault(key, NONE) != NONE;
     }
 
-    /** Puts a number at a key, and answers what was there. */
-    public OptionalLong put(long key, long number) {
+    /** Puts a value at a key, and answers what was there. */
+    public OptionalLong put(long key, long value) {
         try {
-            return found(made((long) Functions.PUT.invokeExact(at(), key, number)));
+            return found(made((long) Functions.PUT.invokeExact(at(), key, value)));
         } catch (Throwable thrown) {
             throw Functions.wrong(thrown);
         } finally {
@@ -152,10 +152,10 @@ public final class SamvolipMap implements AutoCloseable, Iterable<Entry> {
         }
     }
 
-    /** Puts a number at a key that has none, and answers what was there. */
-    public OptionalLong putIfAbsent(long key, long number) {
+    /** Puts a value at a key that has none, and answers what was there. */
+    public OptionalLong putIfAbsent(long key, long value) {
         try {
-            return found(made((long) Functions.PUT_IF_ABSENT.invokeExact(at(), key, number)));
+            return found(made((long) Functions.PUT_IF_ABSENT.invokeExact(at(), key, value)));
         } catch (Throwable thrown) {
             throw Functions.wrong(thrown);
         } finally {
@@ -163,10 +163,10 @@ public final class SamvolipMap implements AutoCloseable, Iterable<Entry> {
         }
     }
 
-    /** Adds a number to what is at a key, or to 0, and answers what was there. May be refused as {@link Code#E_SUM_RANGE}, too. */
-    public OptionalLong add(long key, long number) {
+    /** Adds a value to what is at a key, or to 0, and answers what was there. May be refused as {@link Code#E_SUM_RANGE}, too. */
+    public OptionalLong add(long key, long value) {
         try {
-            return found(made((long) Functions.ADD.invokeExact(at(), key, number)));
+            return found(made((long) Functions.ADD.invokeExact(at(), key, value)));
         } catch (Throwable thrown) {
             throw Functions.wrong(thrown);
         } finally {
@@ -174,10 +174,10 @@ public final class SamvolipMap implements AutoCloseable, Iterable<Entry> {
         }
     }
 
-    /** Puts a number at a key that has a smaller one or none, and answers what was there. */
-    public OptionalLong putGreatest(long key, long number) {
+    /** Puts a value at a key that has a smaller one or none, and answers what was there. */
+    public OptionalLong fetchMax(long key, long value) {
         try {
-            return found(made((long) Functions.FETCH_MAX.invokeExact(at(), key, number)));
+            return found(made((long) Functions.FETCH_MAX.invokeExact(at(), key, value)));
         } catch (Throwable thrown) {
             throw Functions.wrong(thrown);
         } finally {
@@ -185,10 +185,10 @@ public final class SamvolipMap implements AutoCloseable, Iterable<Entry> {
         }
     }
 
-    /** Puts a number at a key that has a greater one or none, and answers what was there. */
-    public OptionalLong putLeast(long key, long number) {
+    /** Puts a value at a key that has a greater one or none, and answers what was there. */
+    public OptionalLong fetchMin(long key, long value) {
         try {
-            return found(made((long) Functions.FETCH_MIN.invokeExact(at(), key, number)));
+            return found(made((long) Functions.FETCH_MIN.invokeExact(at(), key, value)));
         } catch (Throwable thrown) {
             throw Functions.wrong(thrown);
         } finally {
@@ -196,10 +196,10 @@ public final class SamvolipMap implements AutoCloseable, Iterable<Entry> {
         }
     }
 
-    /** Puts a number in place of another, and answers what was there. */
-    public OptionalLong replace(long key, long number) {
+    /** Puts a value in place of another, and answers what was there. */
+    public OptionalLong replace(long key, long value) {
         try {
-            return found(made((long) Functions.REPLACE.invokeExact(at(), key, number)));
+            return found(made((long) Functions.REPLACE.invokeExact(at(), key, value)));
         } catch (Throwable thrown) {
             throw Functions.wrong(thrown);
         } finally {
@@ -207,10 +207,10 @@ public final class SamvolipMap implements AutoCloseable, Iterable<Entry> {
         }
     }
 
-    /** Puts a number in place of this one, and answers whether it did. */
-    public boolean replace(long key, long old, long number) {
+    /** Puts a value in place of this one, and answers whether it did. */
+    public boolean replace(long key, long old, long value) {
         try {
-            return made((int) Functions.REPLACE_IF.invokeExact(at(), key, old, number)) == PRESENT;
+            return made((int) Functions.REPLACE_IF.invokeExact(at(), key, old, value)) == PRESENT;
         } catch (Throwable thrown) {
             throw Functions.wrong(thrown);
         } finally {
@@ -223,10 +223,10 @@ public final class SamvolipMap implements AutoCloseable, Iterable<Entry> {
         return found(word(Functions.REMOVE, key));
     }
 
-    /** Takes out a key that has this number, and answers whether it did. */
-    public boolean remove(long key, long number) {
+    /** Takes out a key that has this value, and answers whether it did. */
+    public boolean remove(long key, long value) {
         try {
-            return made((int) Functions.REMOVE_IF.invokeExact(at(), key, number)) == PRESENT;
+            return made((int) Functions.REMOVE_IF.invokeExact(at(), key, value)) == PRESENT;
         } catch (Throwable thrown) {
             throw Functions.wrong(thrown);
         } finally {
@@ -234,14 +234,14 @@ public final class SamvolipMap implements AutoCloseable, Iterable<Entry> {
         }
     }
 
-    /** Sets a key from one number to another by one step, and answers whether it did. Empty is no number. */
+    /** Sets a key from one value to another by one step, and answers whether it did. Empty is no value. */
     public boolean compareAndSet(long key, OptionalLong old, OptionalLong now) {
         if (old.isPresent()) return now.isPresent() ? replace(key, old.getAsLong(), now.getAsLong()) : remove(key, old.getAsLong());
         return now.isPresent() ? putIfAbsent(key, now.getAsLong()).isEmpty() : !containsKey(key);
     }
 
     /**
-     * Sets a key to what a function makes of its number, and answers what was there. Empty is no number. The function is called again if
+     * Sets a key to what a function makes of its value, and answers what was there. Empty is no value. The function is called again if
      * another thread wrote the key meanwhile.
      */
     public OptionalLong update(long key, UnaryOperator<OptionalLong> next) {
@@ -252,7 +252,7 @@ public final class SamvolipMap implements AutoCloseable, Iterable<Entry> {
         }
     }
 
-    /** The number at a key. If there is none, what a function makes of the key is put there, unless another thread comes first. */
+    /** The value at a key. If there is none, what a function makes of the key is put there, unless another thread comes first. */
     public long computeIfAbsent(long key, LongUnaryOperator make) {
         Objects.requireNonNull(make);
         OptionalLong found = get(key);
@@ -261,7 +261,7 @@ public final class SamvolipMap implements AutoCloseable, Iterable<Entry> {
         return putIfAbsent(key, made).orElse(made);
     }
 
-    /** Sets a key that has a number to what a function makes of the key and its number, and answers that; empty if it has none. */
+    /** Sets a key that has a value to what a function makes of the key and its value, and answers that; empty if it has none. */
     public OptionalLong computeIfPresent(long key, LongBinaryOperator next) {
         Objects.requireNonNull(next);
         while (true) {
@@ -273,45 +273,45 @@ public final class SamvolipMap implements AutoCloseable, Iterable<Entry> {
     }
 
     /**
-     * Puts a number at a key that has none; else sets it to what a function makes of its number and this one. Answers what is there
+     * Puts a value at a key that has none; else sets it to what a function makes of its value and this one. Answers what is there
      * then.
      */
-    public long merge(long key, long number, LongBinaryOperator join) {
+    public long merge(long key, long value, LongBinaryOperator join) {
         Objects.requireNonNull(join);
         while (true) {
-            OptionalLong found = putIfAbsent(key, number);
-            if (found.isEmpty()) return number;
-            long made = join.applyAsLong(found.getAsLong(), number);
+            OptionalLong found = putIfAbsent(key, value);
+            if (found.isEmpty()) return value;
+            long made = join.applyAsLong(found.getAsLong(), value);
             if (replace(key, found.getAsLong(), made)) return made;
         }
     }
 
-    /** The number at each key, or another one. Each is a read of its own. */
+    /** The value at each key, or another one. Each is a read of its own. */
     public long[] getMany(long[] keys, long other) {
         return Many.get(this, keys, other, !mayBeFull);
     }
 
     /**
-     * Puts at each key the number of the same place, one after another: each is a call of its own. If one is refused, those before it were
+     * Puts at each key the value of the same place, one after another: each is a call of its own. If one is refused, those before it were
      * made, and the text says how many.
      */
-    public void putMany(long[] keys, long[] numbers) {
-        Many.write(this, Functions.PUT_MANY, keys, numbers, place -> put(keys[place], numbers[place]));
+    public void putMany(long[] keys, long[] values) {
+        Many.write(this, Functions.PUT_MANY, keys, values, place -> put(keys[place], values[place]));
     }
 
-    /** The same with one number for all. */
-    public void putMany(long[] keys, long number) {
-        Many.write(this, Functions.PUT_MANY, keys, number, place -> put(keys[place], number));
+    /** The same with one value for all. */
+    public void putMany(long[] keys, long value) {
+        Many.write(this, Functions.PUT_MANY, keys, value, place -> put(keys[place], value));
     }
 
-    /** Adds at each key the number of the same place, as {@link #putMany(long[], long[])} puts it. */
-    public void addMany(long[] keys, long[] numbers) {
-        Many.write(this, Functions.ADD_MANY, keys, numbers, place -> add(keys[place], numbers[place]));
+    /** Adds at each key the value of the same place, as {@link #putMany(long[], long[])} puts it. */
+    public void addMany(long[] keys, long[] values) {
+        Many.write(this, Functions.ADD_MANY, keys, values, place -> add(keys[place], values[place]));
     }
 
-    /** The same with one number for all. */
-    public void addMany(long[] keys, long number) {
-        Many.write(this, Functions.ADD_MANY, keys, number, place -> add(keys[place], number));
+    /** The same with one value for all. */
+    public void addMany(long[] keys, long value) {
+        Many.write(this, Functions.ADD_MANY, keys, value, place -> add(keys[place], value));
     }
 
     /** How many keys there are. Exact: writes wait for some microseconds. */
@@ -376,7 +376,7 @@ public final class SamvolipMap implements AutoCloseable, Iterable<Entry> {
 
     /**
      * A walk over the map's keys, while all threads may write it, this one too; any number at a time, in one another or not. No key is
-     * shown twice, and each key that the map has all the while is shown, with a number that it had meanwhile. One thread at a time
+     * shown twice, and each key that the map has all the while is shown, with a value that it had meanwhile. One thread at a time
      * goes on with it.
      */
     @Override
@@ -387,8 +387,8 @@ public final class SamvolipMap implements AutoCloseable, Iterable<Entry> {
     /** The same, shown to a function. */
     public void forEach(EntryConsumer shown) {
         Objects.requireNonNull(shown);
-        any((key, number) -> {
-            shown.accept(key, number);
+        any((key, value) -> {
+            shown.accept(key, value);
             return false;
         });
     }
@@ -398,9 +398,9 @@ public final class SamvolipMap implements AutoCloseable, Iterable<Entry> {
         Walk walk = new Walk(this);
         try {
             while (walk.hasNext()) {
-                long key = walk.key(), number = walk.number();
+                long key = walk.key(), value = walk.value();
                 walk.pass();
-                if (test.test(key, number)) return true;
+                if (test.test(key, value)) return true;
             }
             return false;
         } finally {
@@ -408,12 +408,12 @@ public final class SamvolipMap implements AutoCloseable, Iterable<Entry> {
         }
     }
 
-    /** Takes out the keys of which the test says so, and answers how many. A key whose number was changed after the test stays. */
+    /** Takes out the keys of which the test says so, and answers how many. A key whose value was changed after the test stays. */
     public long removeIf(EntryPredicate test) {
         Objects.requireNonNull(test);
         long[] removed = new long[1];
-        forEach((key, number) -> {
-            if (test.test(key, number) && remove(key, number)) removed[0]++;
+        forEach((key, value) -> {
+            if (test.test(key, value) && remove(key, value)) removed[0]++;
         });
         return removed[0];
     }

@@ -46,7 +46,7 @@ final class Walk implements Iterator<Entry> {
 
     private final Held held;
     private final Cleaner.Cleanable ended;
-    /** What it took last, keys and numbers by turns. */
+    /** What it took last, keys and values by turns. */
     private final long[] some = new long[2 * SOME];
     private int next, count;
     private boolean isOver;
@@ -85,12 +85,12 @@ final class Walk implements Iterator<Entry> {
         return count > 0;
     }
 
-    /** The key and the number of the next entry, which there is; only then the next one is next. */
+    /** The key and the value of the next entry, which there is; only then the next one is next. */
     long key() {
         return some[2 * next];
     }
 
-    long number() {
+    long value() {
         return some[2 * next + 1];
     }
 
@@ -101,7 +101,7 @@ final class Walk implements Iterator<Entry> {
     @Override
     public Entry next() {
         if (!hasNext()) throw new NoSuchElementException();
-        Entry entry = new Entry(key(), number());
+        Entry entry = new Entry(key(), value());
         pass();
         return entry;
     }

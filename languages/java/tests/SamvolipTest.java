@@ -95,18 +95,18 @@ public final class SamvolipTest {
         expect(map.getOrDefault(1, 9), 9L);
         expect(map.computeIfAbsent(1, key -> key + 6), 7L);
         expect(map.computeIfAbsent(1, key -> 0), 7L);
-        expect(map.computeIfPresent(1, (key, number) -> number + 1), of(8));
-        expect(map.computeIfPresent(2, (key, number) -> 0), NONE);
+        expect(map.computeIfPresent(1, (key, value) -> value + 1), of(8));
+        expect(map.computeIfPresent(2, (key, value) -> 0), NONE);
         expect(map.merge(1, 2, Long::sum), 10L);
         expect(map.merge(2, 2, Long::sum), 2L);
         expect(map.update(2, found -> of(found.orElse(0) + map.get(1).orElse(0))), of(2));
         expect(map.update(1, found -> NONE), of(10));
         expect(map.compareAndSet(1, NONE, of(3)) && !map.compareAndSet(1, NONE, of(4)) && map.compareAndSet(1, of(3), of(5)));
         expect(!map.compareAndSet(1, NONE, NONE) && map.compareAndSet(1, of(5), NONE) && map.compareAndSet(1, NONE, NONE));
-        expect(map.putGreatest(1, 5), NONE);
-        expect(map.putGreatest(1, 4), of(5));
-        expect(map.putLeast(1, 3), of(5));
-        expect(map.putLeast(1, 4), of(3));
+        expect(map.fetchMax(1, 5), NONE);
+        expect(map.fetchMax(1, 4), of(5));
+        expect(map.fetchMin(1, 3), of(5));
+        expect(map.fetchMin(1, 4), of(3));
         expect(map.remove(1), of(3));
         expect(map.containsKey(2) && !map.containsKey(1));
         expect(refused(() -> map.get(-1)), Code.E_KEY_RANGE);
@@ -264,14 +264,14 @@ public final class SamvolipTest {
                     map.add(key, 1);
                     expect(map.containsKey(key));
                     if (me == 0 && i % 1000 == 0) map.renew(i % 7919);
-                    if (i % 10000 == 0) map.forEach((shown, number) -> expect(shown % 65536 == 0 && shown >= 0 && shown < 5000L * 65536));
+                    if (i % 10000 == 0) map.forEach((shown, value) -> expect(shown % 65536 == 0 && shown >= 0 && shown < 5000L * 65536));
                 }
             });
             long[] shown = new long[2];
-            map.forEach((key, number) -> {
-                expect(number, 64L);
+            map.forEach((key, value) -> {
+                expect(value, 64L);
                 shown[0]++;
-                shown[1] += number;
+                shown[1] += value;
             });
             expect(Arrays.toString(shown), "[5000, 320000]");
             expect(map.size() == 5000 && map.figures().renewals() >= 40);
@@ -347,7 +347,7 @@ public final class SamvolipTest {
                         if (entry.key() % 25 == 0) {
                             Thread.sleep(1);
                             long[] all = new long[1];
-                            map.forEach((key, number) -> all[0] += key < 100 ? 1 : 0);
+                            map.forEach((key, value) -> all[0] += key < 100 ? 1 : 0);
                             expect(all[0], 100L);
                         }
                     }
@@ -370,28 +370,28 @@ public final class SamvolipTest {
         try (SamvolipMap map = new SamvolipMap()) {
             for (long key = 0; key < 100; key++) map.put(key * 65536, key);
             long[] shown = new long[3];
-            map.forEach((key, number) -> {
-                expect(map.get(key), of(number));
-                expect(key, number * 65536);
+            map.forEach((key, value) -> {
+                expect(map.get(key), of(value));
+                expect(key, value * 65536);
                 for (Entry other : map) {
-                    expect(other.key(), other.number() * 65536);
+                    expect(other.key(), other.value() * 65536);
                     shown[1]++;
-                    if (other.number() % 50 == 0) map.forEach((third, its) -> shown[2]++);
+                    if (other.value() % 50 == 0) map.forEach((third, its) -> shown[2]++);
                 }
-                map.put(key, number);
+                map.put(key, value);
                 shown[0]++;
             });
             expect(Arrays.toString(shown), "[100, 10000, 20000]");
             try {
-                map.forEach((key, number) -> {
+                map.forEach((key, value) -> {
                     throw new ArithmeticException();
                 });
                 throw new AssertionError();
             } catch (ArithmeticException thrown) {
-                expect(map.removeIf((key, number) -> number >= 10), 90L);
+                expect(map.removeIf((key, value) -> value >= 10), 90L);
             }
             Iterator<Entry> walk = map.iterator();
-            for (int i = 0; i < 10; i++) expect(walk.next().number() < 10);
+            for (int i = 0; i < 10; i++) expect(walk.next().value() < 10);
             expect(!walk.hasNext() && !walk.hasNext());
             try {
                 walk.next();
@@ -417,7 +417,7 @@ public final class SamvolipTest {
                 long shown = number++ < 20 ? 2 : 1;
                 for (; walk.hasNext(); shown++) {
                     Entry entry = walk.next();
-                    expect(entry.key(), entry.number());
+                    expect(entry.key(), entry.value());
                 }
                 expect(shown >= 200);
             }

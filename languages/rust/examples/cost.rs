@@ -40,7 +40,7 @@ fn main() {
     for (name, keys) in [("Map", Keys::Secret), ("Map, keys as they are", Keys::AsTheyAre)] {
         let map = map(keys);
         tell(&format!("get, {name}"), &|key| map.get(key));
-        tell(&format!("add, {name}"), &|key| map.fetch_add(key, 1));
+        tell(&format!("add, {name}"), &|key| map.add(key, 1));
         tell(&format!("remove and insert, {name}"), &|key| map.remove(key).and_then(|value| map.insert(key, value)));
     }
     {

@@ -23,7 +23,7 @@ fn main() {
 fn count(visits: &Map) {
     for visitor in 1..1000 {
         for _ in 0..visitor {
-            visits.fetch_add(visitor, 1);
+            visits.add(visitor, 1);
         }
     }
 }

@@ -15,7 +15,7 @@ use std::hash::{BuildHasher, Hash};
 /// let words = RandomState::new();
 /// let counts = Map::new();
 /// for word in "to be or not to be".split(' ') {
-///     counts.fetch_add(key_of(&words, word), 1);
+///     counts.add(key_of(&words, word), 1);
 /// }
 /// assert_eq!(counts.get(key_of(&words, "be")), Some(2));
 /// ```

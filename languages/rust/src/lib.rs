@@ -8,7 +8,7 @@
 //! let visits = Map::new();
 //! thread::scope(|scope| {
 //!     for _ in 0..8 {
-//!         scope.spawn(|| visits.fetch_add(7, 1));
+//!         scope.spawn(|| visits.add(7, 1));
 //!     }
 //! });
 //! assert_eq!(visits.get(7), Some(8));

@@ -127,14 +127,14 @@ impl Map {
     ///
     /// ```
     /// # let map = samvolip::Map::new();
-    /// assert_eq!(map.fetch_add(7, 2), None);
-    /// assert_eq!(map.fetch_add(7, 3), Some(2));
+    /// assert_eq!(map.add(7, 2), None);
+    /// assert_eq!(map.add(7, 3), Some(2));
     /// assert_eq!(map.get(7), Some(5));
     /// ```
     #[inline]
     #[track_caller]
-    pub fn fetch_add(&self, key: u64, value: u64) -> Option<u64> {
-        sure(self.try_fetch_add(key, value))
+    pub fn add(&self, key: u64, value: u64) -> Option<u64> {
+        sure(self.try_add(key, value))
     }
 
     /// Sets a key to the greater one of its value and this one, or to this one if it has none, and returns what was there.
@@ -337,9 +337,9 @@ impl Map {
         self.handle.replace_if(key, old, value)
     }
 
-    /// [`fetch_add`](Map::fetch_add). Refused as [`try_insert`](Map::try_insert), or as [`Error::SumRange`].
+    /// [`add`](Map::add). Refused as [`try_insert`](Map::try_insert), or as [`Error::SumRange`].
     #[inline]
-    pub fn try_fetch_add(&self, key: u64, value: u64) -> Result<Option<u64>, Error> {
+    pub fn try_add(&self, key: u64, value: u64) -> Result<Option<u64>, Error> {
         self.handle.add(key, value)
     }
 

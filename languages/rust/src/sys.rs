@@ -104,17 +104,17 @@ extern "C" {
         map: *mut *mut CMap,
     ) -> i32;
     fn samvolip_map_free(map: *mut CMap);
-    fn samvolip_map_get(map: *mut CMap, key: u64, number: *mut u64) -> i32;
+    fn samvolip_map_get(map: *mut CMap, key: u64, value: *mut u64) -> i32;
     fn samvolip_map_contains(map: *mut CMap, key: u64) -> i32;
-    fn samvolip_map_put(map: *mut CMap, key: u64, number: u64, before: *mut u64) -> i32;
-    fn samvolip_map_put_if_absent(map: *mut CMap, key: u64, number: u64, before: *mut u64) -> i32;
-    fn samvolip_map_fetch_max(map: *mut CMap, key: u64, number: u64, before: *mut u64) -> i32;
-    fn samvolip_map_fetch_min(map: *mut CMap, key: u64, number: u64, before: *mut u64) -> i32;
-    fn samvolip_map_add(map: *mut CMap, key: u64, number: u64, before: *mut u64) -> i32;
-    fn samvolip_map_replace(map: *mut CMap, key: u64, number: u64, before: *mut u64) -> i32;
-    fn samvolip_map_replace_if(map: *mut CMap, key: u64, old: u64, number: u64) -> i32;
+    fn samvolip_map_put(map: *mut CMap, key: u64, value: u64, before: *mut u64) -> i32;
+    fn samvolip_map_put_if_absent(map: *mut CMap, key: u64, value: u64, before: *mut u64) -> i32;
+    fn samvolip_map_fetch_max(map: *mut CMap, key: u64, value: u64, before: *mut u64) -> i32;
+    fn samvolip_map_fetch_min(map: *mut CMap, key: u64, value: u64, before: *mut u64) -> i32;
+    fn samvolip_map_add(map: *mut CMap, key: u64, value: u64, before: *mut u64) -> i32;
+    fn samvolip_map_replace(map: *mut CMap, key: u64, value: u64, before: *mut u64) -> i32;
+    fn samvolip_map_replace_if(map: *mut CMap, key: u64, old: u64, value: u64) -> i32;
     fn samvolip_map_remove(map: *mut CMap, key: u64, before: *mut u64) -> i32;
-    fn samvolip_map_remove_if(map: *mut CMap, key: u64, number: u64) -> i32;
+    fn samvolip_map_remove_if(map: *mut CMap, key: u64, value: u64) -> i32;
     fn samvolip_map_compare_exchange(
         map: *mut CMap,
         key: u64,
@@ -126,14 +126,14 @@ extern "C" {
     fn samvolip_map_size_estimate(map: *mut CMap, size: *mut u64) -> i32;
     fn samvolip_map_clear(
         map: *mut CMap,
-        visit: Option<extern "C" fn(context: *mut c_void, key: u64, number: u64)>,
+        visit: Option<extern "C" fn(context: *mut c_void, key: u64, value: u64)>,
         context: *mut c_void,
     ) -> i32;
     fn samvolip_map_snapshot(map: *mut CMap, entries: *mut Entry, room: usize, count: *mut usize) -> i32;
     fn samvolip_map_renew(map: *mut CMap, room: u64) -> i32;
     fn samvolip_map_look(map: *mut CMap, figures: *mut Figures) -> i32;
     fn samvolip_map_walk_begin(map: *mut CMap, walk: *mut *mut CWalk) -> i32;
-    fn samvolip_map_walk_next(walk: *mut CWalk, key: *mut u64, number: *mut u64) -> i32;
+    fn samvolip_map_walk_next(walk: *mut CWalk, key: *mut u64, value: *mut u64) -> i32;
     fn samvolip_map_walk_end(walk: *mut CWalk);
     fn samvolip_map_pin(map: *mut CMap) -> i32;
     fn samvolip_map_unpin(map: *mut CMap);
@@ -143,7 +143,7 @@ extern "C" {
     fn samvolip_map_look_at_objects(map: *mut CMap, figures: *mut ObjectFigures) -> i32;
     fn samvolip_map_each(
         map: *mut CMap,
-        visit: Option<extern "C" fn(context: *mut c_void, key: u64, number: u64)>,
+        visit: Option<extern "C" fn(context: *mut c_void, key: u64, value: u64)>,
         context: *mut c_void,
     ) -> i32;
 }
@@ -197,7 +197,7 @@ impl Handle {
     #[inline]
     pub fn get(&self, key: u64) -> Result<Option<u64>, Error> {
         // SAFETY: see `call`; what is written goes to a number.
-        found(|number| self.call(|map| unsafe { samvolip_map_get(map, key, number) }))
+        found(|value| self.call(|map| unsafe { samvolip_map_get(map, key, value) }))
     }
 
     #[inline]
@@ -207,45 +207,45 @@ impl Handle {
     }
 
     #[inline]
-    pub fn put(&self, key: u64, number: u64) -> Result<Option<u64>, Error> {
+    pub fn put(&self, key: u64, value: u64) -> Result<Option<u64>, Error> {
         // SAFETY: as for `get`.
-        found(|before| self.call(|map| unsafe { samvolip_map_put(map, key, number, before) }))
+        found(|before| self.call(|map| unsafe { samvolip_map_put(map, key, value, before) }))
     }
 
     #[inline]
-    pub fn put_if_absent(&self, key: u64, number: u64) -> Result<Option<u64>, Error> {
+    pub fn put_if_absent(&self, key: u64, value: u64) -> Result<Option<u64>, Error> {
         // SAFETY: as for `get`.
-        found(|before| self.call(|map| unsafe { samvolip_map_put_if_absent(map, key, number, before) }))
+        found(|before| self.call(|map| unsafe { samvolip_map_put_if_absent(map, key, value, before) }))
     }
 
     #[inline]
-    pub fn fetch_max(&self, key: u64, number: u64) -> Result<Option<u64>, Error> {
+    pub fn fetch_max(&self, key: u64, value: u64) -> Result<Option<u64>, Error> {
         // SAFETY: as for `get`.
-        found(|before| self.call(|map| unsafe { samvolip_map_fetch_max(map, key, number, before) }))
+        found(|before| self.call(|map| unsafe { samvolip_map_fetch_max(map, key, value, before) }))
     }
 
     #[inline]
-    pub fn fetch_min(&self, key: u64, number: u64) -> Result<Option<u64>, Error> {
+    pub fn fetch_min(&self, key: u64, value: u64) -> Result<Option<u64>, Error> {
         // SAFETY: as for `get`.
-        found(|before| self.call(|map| unsafe { samvolip_map_fetch_min(map, key, number, before) }))
+        found(|before| self.call(|map| unsafe { samvolip_map_fetch_min(map, key, value, before) }))
     }
 
     #[inline]
-    pub fn add(&self, key: u64, number: u64) -> Result<Option<u64>, Error> {
+    pub fn add(&self, key: u64, value: u64) -> Result<Option<u64>, Error> {
         // SAFETY: as for `get`.
-        found(|before| self.call(|map| unsafe { samvolip_map_add(map, key, number, before) }))
+        found(|before| self.call(|map| unsafe { samvolip_map_add(map, key, value, before) }))
     }
 
     #[inline]
-    pub fn replace(&self, key: u64, number: u64) -> Result<Option<u64>, Error> {
+    pub fn replace(&self, key: u64, value: u64) -> Result<Option<u64>, Error> {
         // SAFETY: as for `get`.
-        found(|before| self.call(|map| unsafe { samvolip_map_replace(map, key, number, before) }))
+        found(|before| self.call(|map| unsafe { samvolip_map_replace(map, key, value, before) }))
     }
 
     #[inline]
-    pub fn replace_if(&self, key: u64, old: u64, number: u64) -> Result<bool, Error> {
+    pub fn replace_if(&self, key: u64, old: u64, value: u64) -> Result<bool, Error> {
         // SAFETY: see `call`.
-        is_so(self.call(|map| unsafe { samvolip_map_replace_if(map, key, old, number) }))
+        is_so(self.call(|map| unsafe { samvolip_map_replace_if(map, key, old, value) }))
     }
 
     #[inline]
@@ -255,9 +255,9 @@ impl Handle {
     }
 
     #[inline]
-    pub fn remove_if(&self, key: u64, number: u64) -> Result<bool, Error> {
+    pub fn remove_if(&self, key: u64, value: u64) -> Result<bool, Error> {
         // SAFETY: see `call`.
-        is_so(self.call(|map| unsafe { samvolip_map_remove_if(map, key, number) }))
+        is_so(self.call(|map| unsafe { samvolip_map_remove_if(map, key, value) }))
     }
 
     /// What was found: `Ok` if that was `expected`, so that it was exchanged, and else `Err`.
@@ -268,7 +268,7 @@ impl Handle {
         expected: Option<u64>,
         next: Option<u64>,
     ) -> Result<Result<Option<u64>, Option<u64>>, Error> {
-        let pointer = |number: &Option<u64>| number.as_ref().map_or(ptr::null(), |number| number as *const u64);
+        let pointer = |value: &Option<u64>| value.as_ref().map_or(ptr::null(), |value| value as *const u64);
         let (expected, next) = (pointer(&expected), pointer(&next));
         let mut reply = Reply::default();
         // SAFETY: see `call`; the pointers are null, or to numbers that live until it returns.
@@ -297,10 +297,10 @@ impl Handle {
     }
 
     pub fn drain(&self) -> Result<Vec<(u64, u64)>, Error> {
-        extern "C" fn push(entries: *mut c_void, key: u64, number: u64) {
+        extern "C" fn push(entries: *mut c_void, key: u64, value: u64) {
             // SAFETY: it is the vector below, which nobody else has during the call. A push doesn't unwind: there are too few keys
             // for a capacity overflow, and want of memory is an abort.
-            unsafe { &mut *entries.cast::<Vec<(u64, u64)>>() }.push((key, number));
+            unsafe { &mut *entries.cast::<Vec<(u64, u64)>>() }.push((key, value));
         }
         let mut entries = Vec::new();
         let context: *mut Vec<_> = &mut entries;
@@ -358,10 +358,10 @@ unsafe impl Sync for Walk<'_> {}
 impl Walk<'_> {
     #[inline]
     pub fn next(&mut self) -> Result<Option<(u64, u64)>, Error> {
-        let (mut key, mut number) = (0, 0);
+        let (mut key, mut value) = (0, 0);
         // SAFETY: the walk goes on until it is dropped, and nobody else has it.
-        let code = unsafe { samvolip_map_walk_next(self.walk.as_ptr(), &mut key, &mut number) };
-        Ok(is_so(code)?.then_some((key, number)))
+        let code = unsafe { samvolip_map_walk_next(self.walk.as_ptr(), &mut key, &mut value) };
+        Ok(is_so(code)?.then_some((key, value)))
     }
 }
 
@@ -372,12 +372,12 @@ impl Drop for Walk<'_> {
     }
 }
 
-/// What a call found at its key: it wrote that, and answered whether there was a number.
+/// What a call found at its key: it wrote that, and answered whether there was a value.
 #[inline]
 fn found(call: impl FnOnce(*mut u64) -> i32) -> Result<Option<u64>, Error> {
-    let mut number = 0;
-    let code = call(&mut number);
-    Ok(is_so(code)?.then_some(number))
+    let mut value = 0;
+    let code = call(&mut value);
+    Ok(is_so(code)?.then_some(value))
 }
 
 /// Whether it is so, by a call's code.
@@ -399,7 +399,7 @@ fn made(code: i32) -> Result<(), Error> {
     }
 }
 
-/// A map whose numbers are the addresses of boxes.
+/// A map whose values are the addresses of boxes.
 pub struct Boxes<V: Send + Sync> {
     handle: Handle,
     /// It owns objects,
@@ -431,41 +431,41 @@ impl<'m, V: Send + Sync> Pin<'m, V> {
 
     /// The object with this address, which the map had at some moment since the pin stands.
     #[inline]
-    fn object(&self, number: u64) -> &V {
-        told::got(number);
+    fn object(&self, value: u64) -> &V {
+        told::got(value);
         // SAFETY: it was put as a box. Whoever takes it out retires it, and then it isn't freed while the pin stands, which is as long as
         // this borrow. Nobody has it mutably. Who ends and forgets the pin leaves it standing, so it does stand.
-        unsafe { &*(number as *const V) }
+        unsafe { &*(value as *const V) }
     }
 
     #[inline]
     pub fn get(&self, key: u64) -> Result<Option<&V>, Error> {
-        Ok(self.of.handle.get(key)?.map(|number| self.object(number)))
+        Ok(self.of.handle.get(key)?.map(|value| self.object(value)))
     }
 
     /// Puts an object at a key, and returns what was there. A refused call gives it back.
     pub fn put(&self, key: u64, object: Box<V>) -> Result<Option<&V>, (Error, Box<V>)> {
-        let number = number_of(object);
-        match self.of.exchange(|| self.of.handle.put(key, number)) {
-            Ok(before) => Ok(before.map(|number| self.object(number))),
+        let value = number_of(object);
+        match self.of.exchange(|| self.of.handle.put(key, value)) {
+            Ok(before) => Ok(before.map(|value| self.object(value))),
             // SAFETY: it was a box just now, and the map hasn't got it.
-            Err(error) => Err((error, unsafe { box_of(number) })),
+            Err(error) => Err((error, unsafe { box_of(value) })),
         }
     }
 
     pub fn remove(&self, key: u64) -> Result<Option<&V>, Error> {
         let before = self.of.exchange(|| self.of.handle.remove(key))?;
-        Ok(before.map(|number| self.object(number)))
+        Ok(before.map(|value| self.object(value)))
     }
 
     /// Puts an object at a key that has the expected one, or none, and returns it. Else it gives the object back, with an error if it
     /// was refused.
     pub fn exchange(&self, key: u64, expected: Option<&V>, object: Box<V>) -> Result<&V, (Option<Error>, Box<V>)> {
-        let number = number_of(object);
-        match self.of.exchange_at(key, expected, Some(number)) {
-            Ok(true) => Ok(self.object(number)),
+        let value = number_of(object);
+        match self.of.exchange_at(key, expected, Some(value)) {
+            Ok(true) => Ok(self.object(value)),
             // SAFETY: as for `put`.
-            answer => Err((answer.err(), unsafe { box_of(number) })),
+            answer => Err((answer.err(), unsafe { box_of(value) })),
         }
     }
 
@@ -501,9 +501,9 @@ impl<V: Send + Sync> Boxes<V> {
         // SAFETY: see `call`.
         made(self.handle.call(|map| unsafe { samvolip_map_ready(map) }))?;
         let before = call()?;
-        if let Some(number) = before {
+        if let Some(value) = before {
             // SAFETY: see `call`; this call alone took it out of the map, where it was put as a box. It isn't refused now.
-            self.handle.call(|map| unsafe { samvolip_map_retire(map, number as *mut c_void, free_box::<V>) });
+            self.handle.call(|map| unsafe { samvolip_map_retire(map, value as *mut c_void, free_box::<V>) });
         }
         Ok(before)
     }
@@ -535,8 +535,8 @@ impl<V: Send + Sync> Boxes<V> {
 
 impl<V: Send + Sync> Drop for Boxes<V> {
     fn drop(&mut self) {
-        extern "C" fn free<V>(_: *mut c_void, _: u64, number: u64) {
-            free_box::<V>(number as *mut c_void)
+        extern "C" fn free<V>(_: *mut c_void, _: u64, value: u64) {
+            free_box::<V>(value as *mut c_void)
         }
         // SAFETY: see `call`; nobody has the map any more, and so nobody what is in it. What was retired goes with the map.
         self.handle.call(|map| unsafe { samvolip_map_each(map, Some(free::<V>), ptr::null_mut()) });
@@ -567,15 +567,15 @@ pub struct ObjectWalk<'p, V: Send + Sync> {
 
 impl<'p, V: Send + Sync> ObjectWalk<'p, V> {
     pub fn next(&mut self) -> Result<Option<(u64, &'p V)>, Error> {
-        Ok(self.walk.next()?.map(|(key, number)| (key, self.pin.object(number))))
+        Ok(self.walk.next()?.map(|(key, value)| (key, self.pin.object(value))))
     }
 }
 
 /// The address of what is in a box, which nobody frees.
 fn number_of<V>(object: Box<V>) -> u64 {
-    let number = Box::into_raw(object) as u64;
-    told::put(number);
-    number
+    let value = Box::into_raw(object) as u64;
+    told::put(value);
+    value
 }
 
 /// The box with this address.
@@ -583,8 +583,8 @@ fn number_of<V>(object: Box<V>) -> u64 {
 /// # Safety
 ///
 /// It was a box, and nobody else makes it one again, nor has what is in it.
-unsafe fn box_of<V>(number: u64) -> Box<V> {
-    Box::from_raw(number as *mut V)
+unsafe fn box_of<V>(value: u64) -> Box<V> {
+    Box::from_raw(value as *mut V)
 }
 
 /// The thread sanitizer doesn't look into the library: with `--cfg samvolip_tells_order` it is told what that orders. Who gets an object
@@ -605,12 +605,12 @@ mod told {
     }
 
     // SAFETY: the sanitizer takes any address.
-    pub fn put(number: u64) {
-        unsafe { __tsan_release(number as *mut c_void) }
+    pub fn put(value: u64) {
+        unsafe { __tsan_release(value as *mut c_void) }
     }
 
-    pub fn got(number: u64) {
-        unsafe { __tsan_acquire(number as *mut c_void) }
+    pub fn got(value: u64) {
+        unsafe { __tsan_acquire(value as *mut c_void) }
     }
 
     pub fn unpins() {

@@ -27,10 +27,10 @@ fn each_call_of_a_key() {
     assert_eq!(map.insert_if_absent(1, 3), Some(2));
     assert_eq!((map.replace(1, 4), map.replace(2, 4)), (Some(2), None));
     assert_eq!((map.replace_if(1, 2, 5), map.replace_if(1, 4, 5)), (false, true));
-    assert_eq!(map.fetch_add(1, 1), Some(5));
+    assert_eq!(map.add(1, 1), Some(5));
     assert_eq!((map.remove_if(1, 4), map.remove_if(1, 6)), (false, true));
     assert_eq!((map.remove(1), map.remove_if(1, 6)), (None, false));
-    assert_eq!(map.fetch_add(1, 3), None);
+    assert_eq!(map.add(1, 3), None);
     assert_eq!(map.remove(1), Some(3));
     assert_eq!((map.fetch_max(1, 5), map.fetch_max(1, 4), map.fetch_max(1, 6)), (None, Some(5), Some(5)));
     assert_eq!((map.fetch_min(2, 5), map.fetch_min(2, 6), map.fetch_min(2, 4)), (None, Some(5), Some(5)));
@@ -58,7 +58,7 @@ fn exchanges_and_updates() {
     let answered = map.update(1, |found| {
         calls += 1;
         if calls < 3 {
-            map.fetch_add(1, 1);
+            map.add(1, 1);
         }
         found.map(|value| 10 * value)
     });
@@ -98,7 +98,7 @@ fn retained_while_keys_change() {
         asked += 1;
         match key % 4 {
             0 => map.insert(key, 5) == Some(5),
-            1 => value < 3 && map.fetch_add(key, 1).is_none(),
+            1 => value < 3 && map.add(key, 1).is_none(),
             2 => map.remove(key).is_none(),
             _ => true,
         }
@@ -131,7 +131,7 @@ fn a_clone_is_a_handle() {
     map.insert(1, 2);
     assert_eq!(other.get(1), Some(2));
     drop(map);
-    assert_eq!(other.fetch_add(1, 3), Some(2));
+    assert_eq!(other.add(1, 3), Some(2));
     let copy: Map = other.iter().collect();
     other.clear();
     assert_eq!(copy.get(1), Some(5));
@@ -160,8 +160,8 @@ fn the_greatest_key_and_value() {
     for keys in [Keys::Secret, Keys::Mixed, Keys::AsTheyAre] {
         let map = Map::with_options(Options::new().keys(keys)).unwrap();
         assert_eq!(map.insert(KEY_MAX, VALUE_MAX), None);
-        assert_eq!(map.try_fetch_add(KEY_MAX, 1), Err(Error::SumRange));
-        assert_eq!(map.fetch_add(KEY_MAX, 0), Some(VALUE_MAX));
+        assert_eq!(map.try_add(KEY_MAX, 1), Err(Error::SumRange));
+        assert_eq!(map.add(KEY_MAX, 0), Some(VALUE_MAX));
         assert_eq!(map.snapshot(), [(KEY_MAX, VALUE_MAX)]);
         for past in [KEY_MAX + 1, u64::MAX] {
             assert_eq!((map.get(past), map.try_get(past), map.contains_key(past)), (None, Ok(None), false));
@@ -216,8 +216,8 @@ fn refusals() {
     assert_eq!(map.try_replace_if(1, VALUE_MAX, value), Err(Error::ValueRange));
     assert_eq!(map.try_fetch_max(1, value), Err(Error::ValueRange));
     assert_eq!(map.try_fetch_min(1, value), Err(Error::ValueRange));
-    assert_eq!(map.try_fetch_add(2, value), Err(Error::ValueRange));
-    assert_eq!(map.try_fetch_add(1, 1), Err(Error::SumRange));
+    assert_eq!(map.try_add(2, value), Err(Error::ValueRange));
+    assert_eq!(map.try_add(1, 1), Err(Error::SumRange));
     assert_eq!(map.try_compare_exchange(1, Some(VALUE_MAX), Some(value)), Err(Error::ValueRange));
     assert_eq!(map.try_update(1, |_| Some(value)), Err(Error::ValueRange));
     assert_eq!(map.try_update(key, |_| Some(1)), Err(Error::KeyRange));
@@ -238,7 +238,7 @@ fn panics() {
     assert_eq!(panic_of(|| map.get_or_insert_with(2, || u64::MAX)), value);
     assert_eq!(panic_of(|| map.replace(u64::MAX, 1)), key);
     assert_eq!(panic_of(|| map.replace_if(1, u64::MAX, 1)), value);
-    assert_eq!(panic_of(|| map.fetch_add(1, 1)), "samvolip: the sum is past VALUE_MAX, which is 2^60 - 1");
+    assert_eq!(panic_of(|| map.add(1, 1)), "samvolip: the sum is past VALUE_MAX, which is 2^60 - 1");
     assert_eq!(panic_of(|| map.fetch_max(u64::MAX, 1)), key);
     assert_eq!(panic_of(|| map.fetch_min(1, u64::MAX)), value);
     assert_eq!(panic_of(|| map.compare_exchange(1, None, Some(u64::MAX))), value);
@@ -294,7 +294,7 @@ fn no_memory() {
     let refused = (0..).find(|&key| map.try_insert(key, key) == Err(Error::OutOfMemory)).unwrap();
     assert_eq!(refused, 32);
     assert!(sorted(&map).into_iter().eq((0..refused).map(|key| (key, key))));
-    for call in [Map::try_insert_if_absent, Map::try_fetch_add, Map::try_fetch_max, Map::try_fetch_min] {
+    for call in [Map::try_insert_if_absent, Map::try_add, Map::try_fetch_max, Map::try_fetch_min] {
         assert_eq!(call(&map, refused, 1), Err(Error::OutOfMemory));
     }
     assert_eq!(map.try_compare_exchange(refused, None, Some(1)), Err(Error::OutOfMemory));

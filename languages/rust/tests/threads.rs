@@ -62,7 +62,7 @@ fn eight_threads_and_growth() {
         in_threads(8, |number| {
             for i in 0..20_000 {
                 let key = (i * 7 + number * 625) % 5000 * step;
-                map.fetch_add(key, 1);
+                map.add(key, 1);
                 assert!(map.contains_key(key));
                 if i % 10_000 == 0 {
                     let shown: BTreeMap<_, _> = map.iter().collect();
@@ -87,7 +87,7 @@ fn renewals_under_load() {
             let mut seen = [0; 64];
             for i in 0.. {
                 let key = (i * 13 + number) % 64;
-                let before = map.fetch_add(key, 1).unwrap_or(0);
+                let before = map.add(key, 1).unwrap_or(0);
                 let after = map.get(key).unwrap();
                 assert!(seen[key as usize] <= before && before < after);
                 seen[key as usize] = after;
@@ -122,8 +122,8 @@ fn snapshots_beside_writers() {
     let write = |is_over: &AtomicBool| {
         in_threads(4, |number| {
             for key in (1000 + number..).step_by(4) {
-                map.fetch_add(2 * number, 1);
-                map.fetch_add(2 * number + 1, 1);
+                map.add(2 * number, 1);
+                map.add(2 * number + 1, 1);
                 map.insert(key, number);
                 map.remove(key - 100);
                 if is_over.load(Ordering::Relaxed) {
@@ -186,7 +186,7 @@ fn drained_beside_writers() {
     beside(drain, || {
         in_threads(4, |number| {
             for i in 0..50_000 {
-                map.fetch_add((i * 31 + number) % 300, 1);
+                map.add((i * 31 + number) % 300, 1);
             }
         });
     });
@@ -275,7 +275,7 @@ fn three_hundred_threads() {
         in_threads(300, |number| {
             for i in 0..100 {
                 assert_eq!(map.insert(1000 + 100 * number + i, i), None);
-                map.fetch_add(i, 1);
+                map.add(i, 1);
                 assert_eq!(map.get(1000 + 100 * number + i), Some(i));
             }
             if number % 10 == 0 {
@@ -297,7 +297,7 @@ fn threads_come_and_go() {
                 let map = map.clone();
                 thread::spawn(move || {
                     map.insert(1000 + 8 * round + number, round);
-                    map.fetch_add(number, 1)
+                    map.add(number, 1)
                 })
             })
             .collect();
@@ -317,8 +317,8 @@ fn a_pool_hands_work_around() {
     struct Piece(Work);
     fn piece(map: Map, sums: Map, left: u64) -> Piece {
         Piece(Box::new(move |queue| {
-            map.fetch_add(left % 7, 1);
-            let sum = sums.fetch_add(left, 1).map_or(1, |before| before + 1);
+            map.add(left % 7, 1);
+            let sum = sums.add(left, 1).map_or(1, |before| before + 1);
             assert_eq!(sums.get(left).map(|now| now >= sum), Some(true));
             match left {
                 0 => assert_eq!(map.values().sum::<u64>(), 201),
@@ -381,7 +381,7 @@ mod tasks {
 
     async fn work(map: Map, done: Map) {
         for i in 0..50 {
-            map.fetch_add(i, 1);
+            map.add(i, 1);
             rest().await;
         }
         let mut shown = 0;
@@ -393,7 +393,7 @@ mod tasks {
             }
         }
         assert_eq!(shown, 50);
-        done.fetch_add(0, 1);
+        done.add(0, 1);
     }
 
     fn run(pieces: &Mutex<Receiver<Arc<Task>>>, done: &Map, tasks: u64) {
@@ -432,7 +432,7 @@ fn many_maps() {
     let (answer, answers) = channel();
     let thread = thread::spawn(move || {
         for map in given {
-            let answered = map.fetch_add(1, 1);
+            let answered = map.add(1, 1);
             drop(map);
             answer.send(answered).unwrap();
         }
@@ -464,7 +464,7 @@ fn maps_go_while_threads_end() {
             .map(|key| {
                 let (map, done) = (map.clone(), done.clone());
                 thread::spawn(move || {
-                    map.fetch_add(key, 1);
+                    map.add(key, 1);
                     drop(map);
                     done.send(()).unwrap(); // its way into the map goes back after this
                 })
@@ -504,8 +504,8 @@ struct LastCall(Map);
 impl Drop for LastCall {
     fn drop(&mut self) {
         let map = KEPT.get().unwrap();
-        map.fetch_add(1, self.0.get(1).unwrap());
-        map.fetch_add(map.len() as u64 + 1, 1);
+        map.add(1, self.0.get(1).unwrap());
+        map.add(map.len() as u64 + 1, 1);
     }
 }
 
@@ -519,7 +519,7 @@ fn calls_as_threads_end() {
             if round % 2 == 0 {
                 LAST.with(|last| last.0.insert(2, 1));
             }
-            map.fetch_add(1, 1);
+            map.add(1, 1);
             LAST.with(|last| last.0.insert(3, 1));
         };
         thread::spawn(end).join().unwrap();
@@ -546,7 +546,7 @@ mod signals {
 
     extern "C" fn handle(_: i32) {
         let map = MAP.get().unwrap();
-        match (map.try_get(1), map.try_fetch_add(2, 1)) {
+        match (map.try_get(1), map.try_add(2, 1)) {
             (Ok(found), Ok(_)) => MADE.fetch_add(u64::from(found == Some(5)), Ordering::Relaxed),
             (Err(Error::Nested), Err(Error::Nested)) => NESTED.fetch_add(1, Ordering::Relaxed),
             answers => panic!("{answers:?}"),
@@ -560,11 +560,11 @@ mod signals {
         // SAFETY: what the handler calls may be called by a handler.
         unsafe { signal(SIGUSR1, handle) };
         let call = |is_over: &AtomicBool| {
-            map.fetch_add(3, 1); // a first call takes memory, which a handler may not
+            map.add(3, 1); // a first call takes memory, which a handler may not
                                  // SAFETY: any thread may ask.
             caller.send(unsafe { pthread_self() }).unwrap();
             while !is_over.load(Ordering::Relaxed) {
-                map.fetch_add(3, 1);
+                map.add(3, 1);
             }
         };
         beside(call, || {

@@ -131,7 +131,8 @@ template <class Decide> outcome access::change(std::string_view key, Decide &&de
         if (!take_others(first, key, made))
             return outcome::no_memory;
         const extent after = extent_of(made.get());
-        const auto exchanged = of_.items.compare_exchange(hash, first, std::move(made));
+        const item *expected = first;
+        const auto exchanged = of_.items.compare_exchange(hash, expected, std::move(made));
         if (!exchanged.has_value())
             return outcome::no_memory;
         if (*exchanged) {
@@ -265,7 +266,8 @@ bool access::evict()
             hash = some[i].key;
         }
     }
-    if (!oldest || !of_.items.compare_exchange(hash, oldest, nullptr).value_or(false))
+    const item *expected = oldest;
+    if (!oldest || !of_.items.compare_exchange(hash, expected, nullptr).value_or(false))
         return false;
     const extent gone = extent_of(oldest);
     count(gone, extent());

@@ -45,7 +45,7 @@ final class Native {
     /** Whether a function of C can read and write an array where it is. */
     static final boolean TAKES_ARRAYS = false;
 
-    static long getMany(long map, long[] keys, long[] numbers, int from, int count, long other) {
+    static long getMany(long map, long[] keys, long[] values, int from, int count, long other) {
         throw new UnsupportedOperationException();
     }
 
@@ -95,11 +95,11 @@ final class Native {
         return MemorySegment.ofArray(all).asSlice(8L * from, 8L * count);
     }
 
-    static void setLong(long at, long number) {
-        MemoryAccess.setLongAtOffset(ALL, at, number);
+    static void setLong(long at, long value) {
+        MemoryAccess.setLongAtOffset(ALL, at, value);
     }
 
-    static void setInt(long at, int number) {
-        MemoryAccess.setIntAtOffset(ALL, at, number);
+    static void setInt(long at, int value) {
+        MemoryAccess.setIntAtOffset(ALL, at, value);
     }
 }

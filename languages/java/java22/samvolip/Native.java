@@ -46,8 +46,8 @@ final class Native {
         Linker.Option.critical(true));
 
     /** C's samvolip_map_try_get_many for so many keys from a place on: it reads and writes the arrays where they are. */
-    static long getMany(long map, long[] keys, long[] numbers, int from, int count, long other) throws Throwable {
-        MemorySegment of = MemorySegment.ofArray(keys).asSlice(8L * from), into = MemorySegment.ofArray(numbers).asSlice(8L * from);
+    static long getMany(long map, long[] keys, long[] values, int from, int count, long other) throws Throwable {
+        MemorySegment of = MemorySegment.ofArray(keys).asSlice(8L * from), into = MemorySegment.ofArray(values).asSlice(8L * from);
         return (long) GET_MANY.invokeExact(map, of, into, (long) count, other);
     }
 
@@ -93,11 +93,11 @@ final class Native {
         MemorySegment.copy(of, from, ALL, ValueLayout.JAVA_LONG, at, count);
     }
 
-    static void setLong(long at, long number) {
-        ALL.set(ValueLayout.JAVA_LONG, at, number);
+    static void setLong(long at, long value) {
+        ALL.set(ValueLayout.JAVA_LONG, at, value);
     }
 
-    static void setInt(long at, int number) {
-        ALL.set(ValueLayout.JAVA_INT, at, number);
+    static void setInt(long at, int value) {
+        ALL.set(ValueLayout.JAVA_INT, at, value);
     }
 }
