@@ -19,5 +19,6 @@ int main()
         thread.join();
     samvolip::object_map<int> objects;
     objects.insert_or_assign(7, std::make_unique<int>(map.get(7).value().value())).value();
-    std::printf("%d keys, %d at 7\n", static_cast<int>(map.size().value()), *objects.pin().get(7));
+    const auto pin = objects.pin();
+    std::printf("%d keys, %d at 7\n", static_cast<int>(map.size().value()), *pin.get(7));
 }

@@ -167,7 +167,10 @@ void costs(std::uint64_t rounds, std::uint64_t calls)
     cost("nothing", rounds, calls, [&](std::uint64_t key) { sum += key; });
     cost("samvolip_map_pin and unpin", rounds, calls, [&](std::uint64_t) { samvolip_map_pin(native), samvolip_map_unpin(native); });
     cost("samvolip_map_get", rounds, calls, [&](std::uint64_t key) { samvolip_map_get(native, key, &number); });
-    cost("a pin, a get and what it reads, each time", rounds, calls, [&](std::uint64_t key) { sum += objects.pin().get(key)->key; });
+    cost("a pin, a get and what it reads, each time", rounds, calls, [&](std::uint64_t key) {
+        const auto pin = objects.pin();
+        sum += pin.get(key)->key;
+    });
     {
         const auto pin = objects.pin();
         cost("a get and what it reads, under one pin", rounds, calls, [&](std::uint64_t key) { sum += pin.get(key)->key; });

@@ -15,7 +15,7 @@
  * before that or after. With a map that was moved from nothing is done but to assign or destroy it.
  *
  * Keys go up to SAMVOLIP_KEY_MAX, which is 2^64 - 3, and values up to SAMVOLIP_VALUE_MAX, which is
- * 2^60 - 1.
+ * 2^60 - 1. Any type of integers does for both: a negative one is refused.
  *
  * Refusals. A call answers a result: what it has to answer, or why it was refused. A refused call
  * changes nothing. Any call may be refused with fault::nested, by a signal handler in the middle of
@@ -41,6 +41,7 @@
 #include <optional>
 #include <stdexcept>
 #include <string>
+#include <type_traits>
 #include <utility>
 #include <vector>
 
@@ -52,8 +53,8 @@ namespace samvolip {
 enum class fault : int {
     none = 0,
     out_of_memory = SAMVOLIP_E_OUT_OF_MEMORY,
-    key_range = SAMVOLIP_E_KEY_RANGE,     /* a key past SAMVOLIP_KEY_MAX */
-    value_range = SAMVOLIP_E_VALUE_RANGE, /* a value past SAMVOLIP_VALUE_MAX */
+    key_range = SAMVOLIP_E_KEY_RANGE,     /* a key past SAMVOLIP_KEY_MAX, or a negative one */
+    value_range = SAMVOLIP_E_VALUE_RANGE, /* the same of a value and SAMVOLIP_VALUE_MAX */
     sum_range = SAMVOLIP_E_SUM_RANGE,     /* the sum of an add is past it */
     nested = SAMVOLIP_E_NESTED,
     options = SAMVOLIP_E_OPTIONS, /* an option out of its range */
@@ -78,11 +79,20 @@ enum class fault : int {
 class refusal {
 public:
     constexpr refusal(fault why = fault::none) noexcept : why_(why) {}
+    constexpr refusal(fault why, const char *text) noexcept : why_(why), text_(text) {}
     constexpr fault why() const noexcept { return why_; }
-    const char *message() const noexcept { return samvolip_map_strerror(static_cast<int>(why_)); }
+    const char *message() const noexcept
+    {
+        switch (why_) {
+        case fault::key_range: return "a key is from 0 to 2^64 - 3";
+        case fault::value_range: return "a value is from 0 to 2^60 - 1";
+        default: return text_ ? text_ : samvolip_map_strerror(static_cast<int>(why_));
+        }
+    }
 
 private:
     fault why_;
+    const char *text_ = nullptr; /* which option is wrong, and its range */
 };
 
 /* What value() throws. */
@@ -97,6 +107,13 @@ public:
 private:
     refusal why_;
 };
+
+namespace inside {
+
+/* Whether what an object gives ends with it. */
+template <class T> inline constexpr bool is_pin = false;
+
+} // namespace inside
 
 /* What a call answers, or why it was refused: much as std::expected, but no condition. */
 template <class T> class [[nodiscard]] result {
@@ -116,8 +133,15 @@ public:
     T &operator*() & noexcept { return *answer_; }
     const T &operator*() const & noexcept { return *answer_; }
     T operator*() && { return *std::move(answer_); }
-    T *operator->() noexcept { return &*answer_; }
-    const T *operator->() const noexcept { return &*answer_; }
+    T *operator->() & noexcept { return &*answer_; }
+    const T *operator->() const & noexcept { return &*answer_; }
+    template <class Given = T, std::enable_if_t<!inside::is_pin<Given>, int> = 0>
+    T *operator->() && noexcept
+    {
+        return &*answer_;
+    }
+    template <class Given = T, std::enable_if_t<inside::is_pin<Given>, int> = 0>
+    T *operator->() && = delete; /* what a pin gives is gone with it: it needs a name */
 
     /* The answer. A refusal is thrown. */
     T &value() & { return expect(), *answer_; }
@@ -165,6 +189,22 @@ struct emplaced {
 
 namespace inside {
 
+/* A key as it is given. A negative one is none, whatever else its bits might be. */
+class key {
+public:
+    constexpr key(std::uint64_t given) noexcept : bits_(given) {}
+    template <class Number,
+              std::enable_if_t<std::is_integral_v<Number> && std::is_signed_v<Number>, int> = 0>
+    constexpr key(Number given) noexcept
+        : bits_(given < 0 ? UINT64_MAX : static_cast<std::uint64_t>(given))
+    {
+    }
+    constexpr operator std::uint64_t() const noexcept { return bits_; }
+
+private:
+    std::uint64_t bits_;
+};
+
 /* A refusal, if the code is one; else the answer. */
 template <class T> result<T> answer(int code, T made)
 {
@@ -197,19 +237,25 @@ result<found> update(Caller &caller, std::uint64_t key, Function &function)
     return before;
 }
 
-/* Whether there is memory for so many entries. */
-inline bool has_room(std::vector<entry> &all, std::size_t count)
+/* Whether there was memory for what takes some. */
+template <class Work> bool has_memory(Work &&work)
 {
 #ifdef __cpp_exceptions
     try {
-        all.resize(count);
+        work();
     } catch (const std::bad_alloc &) {
         return false;
     }
 #else
-    all.resize(count);
+    work();
 #endif
     return true;
+}
+
+/* Whether there is memory for so many entries. */
+inline bool has_room(std::vector<entry> &all, std::size_t count)
+{
+    return has_memory([&] { all.resize(count); });
 }
 
 /* The entries as C has them. */
@@ -222,9 +268,8 @@ inline samvolip_entry *of_c(std::vector<entry> &all) noexcept
     return reinterpret_cast<samvolip_entry *>(all.data());
 }
 
-struct end {};
-
-/* Where a loop over a map or a seat is. It has a walk of its own. */
+/* Where a loop over a map or a seat is: an input iterator. Copies of it go by one walk, so that once
+   one of them has gone on the others stay behind. The end has no walk. */
 template <class Walk> class iterator {
 public:
     using iterator_category = std::input_iterator_tag;
@@ -233,20 +278,32 @@ public:
     using pointer = const entry *;
     using reference = const entry &;
 
+    iterator() noexcept = default;
     explicit iterator(Walk of) : of_(std::move(of)) { ++*this; }
     reference operator*() const noexcept { return *shown_; }
     pointer operator->() const noexcept { return &*shown_; }
     iterator &operator++()
     {
-        shown_ = of_.next().value();
+        shown_ = of_->next().value();
         return *this;
     }
-    void operator++(int) { ++*this; }
-    friend bool operator==(const iterator &at, end) noexcept { return !at.shown_; }
-    friend bool operator!=(const iterator &at, end) noexcept { return at.shown_.has_value(); }
+    iterator operator++(int)
+    {
+        iterator before(*this);
+        ++*this;
+        return before;
+    }
+    friend bool operator==(const iterator &at, const iterator &other) noexcept
+    {
+        return at.shown_.has_value() == other.shown_.has_value();
+    }
+    friend bool operator!=(const iterator &at, const iterator &other) noexcept
+    {
+        return !(at == other);
+    }
 
 private:
-    Walk of_;
+    std::optional<Walk> of_;
     std::optional<entry> shown_;
 };
 
@@ -293,6 +350,28 @@ private:
     std::unique_ptr<samvolip_map_walk, ends> walk_;
 };
 
+namespace inside {
+
+/* A walk by which several iterators go. */
+class shared_walk {
+public:
+    static result<shared_walk> of(result<walk> begun)
+    {
+        if (!begun.has_value())
+            return begun.error();
+        shared_walk made;
+        if (!has_memory([&] { made.walk_ = std::make_shared<walk>(*std::move(begun)); }))
+            return refusal(fault::out_of_memory);
+        return made;
+    }
+    result<std::optional<entry>> next() { return walk_->next(); }
+
+private:
+    std::shared_ptr<walk> walk_;
+};
+
+} // namespace inside
+
 /* A map that any thread may call. */
 class map {
 public:
@@ -307,6 +386,8 @@ public:
                                             static_cast<std::uint32_t>(how.keys)};
         samvolip_map *made = nullptr;
         const int code = samvolip_map_open(&given, &made);
+        if (code == SAMVOLIP_E_OPTIONS)
+            return refusal(fault::options, samvolip_map_wrong_option(&given));
         return inside::answer(code, map(made));
     }
 
@@ -314,20 +395,20 @@ public:
        that is new needs room ---- */
 
     /* What is at a key. */
-    result<found> get(std::uint64_t key) const { return told<samvolip_map_get>(key); }
+    result<found> get(inside::key key) const { return told<samvolip_map_get>(key); }
 
     /* Whether there is a value at it. */
-    result<bool> contains(std::uint64_t key) const { return is_so<samvolip_map_contains>(key); }
+    result<bool> contains(inside::key key) const { return is_so<samvolip_map_contains>(key); }
 
     /* Puts a value at a key, and answers whether there was none. */
-    result<bool> insert_or_assign(std::uint64_t key, std::uint64_t value)
+    result<bool> insert_or_assign(inside::key key, std::uint64_t value)
     {
         const int code = samvolip_map_put(native_handle(), key, value, nullptr);
         return inside::answer(code, code == SAMVOLIP_ABSENT);
     }
 
     /* Puts a value at a key that has none, and answers what is there then. */
-    result<emplaced> try_emplace(std::uint64_t key, std::uint64_t value)
+    result<emplaced> try_emplace(inside::key key, std::uint64_t value)
     {
         std::uint64_t there = 0;
         const int code = samvolip_map_get_or_insert(native_handle(), key, value, &there);
@@ -337,47 +418,47 @@ public:
     /* These answer what was at the key before. The first puts a value there, the second puts it
        in place of another, the third adds it to what is there, or to 0, and is also refused for
        sum_range. */
-    result<found> exchange(std::uint64_t key, std::uint64_t value)
+    result<found> exchange(inside::key key, std::uint64_t value)
     {
         return told<samvolip_map_put>(key, value);
     }
-    result<found> replace(std::uint64_t key, std::uint64_t value)
+    result<found> replace(inside::key key, std::uint64_t value)
     {
         return told<samvolip_map_replace>(key, value);
     }
-    result<found> add(std::uint64_t key, std::uint64_t value)
+    result<found> add(inside::key key, std::uint64_t value)
     {
         return told<samvolip_map_add>(key, value);
     }
 
     /* So do these: they put a value at a key that has a smaller one, or a greater one, or none. */
-    result<found> fetch_max(std::uint64_t key, std::uint64_t value)
+    result<found> fetch_max(inside::key key, std::uint64_t value)
     {
         return told<samvolip_map_fetch_max>(key, value);
     }
-    result<found> fetch_min(std::uint64_t key, std::uint64_t value)
+    result<found> fetch_min(inside::key key, std::uint64_t value)
     {
         return told<samvolip_map_fetch_min>(key, value);
     }
 
     /* Each removes a key: the first answers whether there was a value, the second which. */
-    result<bool> erase(std::uint64_t key) { return is_so<samvolip_map_remove>(key, nullptr); }
-    result<found> extract(std::uint64_t key) { return told<samvolip_map_remove>(key); }
+    result<bool> erase(inside::key key) { return is_so<samvolip_map_remove>(key, nullptr); }
+    result<found> extract(inside::key key) { return told<samvolip_map_remove>(key); }
 
     /* Each answers whether it did it: the first puts `value` in place of `old`, the second removes
        a key that has this value. */
-    result<bool> replace_if(std::uint64_t key, std::uint64_t old, std::uint64_t value)
+    result<bool> replace_if(inside::key key, std::uint64_t old, std::uint64_t value)
     {
         return is_so<samvolip_map_replace_if>(key, old, value);
     }
-    result<bool> erase_if(std::uint64_t key, std::uint64_t value)
+    result<bool> erase_if(inside::key key, std::uint64_t value)
     {
         return is_so<samvolip_map_remove_if>(key, value);
     }
 
     /* Sets a key to `next` if it is at `expected`, and answers whether it did. If not, `expected`
        becomes what is there. */
-    result<bool> compare_exchange(std::uint64_t key, found &expected, found next)
+    result<bool> compare_exchange(inside::key key, found &expected, found next)
     {
         samvolip_reply reply = {0, 0, 0};
         const int code = samvolip_map_compare_exchange(native_handle(), key,
@@ -389,7 +470,7 @@ public:
     /* Exchanges what is at a key for what a function makes of it: a function from found to found.
        It is called again where others' writes of the key came first, and may call the map; what it
        throws goes through. Answers what was there before. */
-    template <class Function> result<found> update(std::uint64_t key, Function &&function)
+    template <class Function> result<found> update(inside::key key, Function &&function)
     {
         return inside::update(*this, key, function);
     }
@@ -467,11 +548,9 @@ public:
 
     /* ---- walks: loops over a map may lie in one another ---- */
 
-    inside::iterator<samvolip::walk> begin() const
-    {
-        return inside::iterator<samvolip::walk>(walk().value());
-    }
-    inside::end end() const noexcept { return {}; }
+    using iterator = inside::iterator<inside::shared_walk>;
+    iterator begin() const { return iterator(inside::shared_walk::of(walk()).value()); }
+    iterator end() const noexcept { return {}; }
 
     /* What such a loop goes by. Refused: out_of_memory. */
     result<samvolip::walk> walk() const

@@ -15,7 +15,7 @@
  * Rules
  *
  * Pins. What a thread gets by a pin isn't freed as long as the pin lives, whatever becomes of the
- * key. A pin lives and ends on the thread that made it, may be moved there, and lies within the life
+ * key. A pin without a name gives nothing. A pin lives and ends on the thread that made it, may be moved there, and lies within the life
  * of the map. Pins nest. A pin that stays stops nobody, but nothing is freed that was overwritten or
  * erased since: figures tell how much that is.
  *
@@ -87,13 +87,22 @@ template <class T> T *object_of(std::uint64_t value)
 } // namespace inside
 
 template <class T> class object_map;
+template <class T> class pin;
+template <class T> class pinned;
+
+namespace inside {
+template <class T> inline constexpr bool is_pin<pin<T>> = true;
+template <class T> inline constexpr bool is_pin<pinned<T>> = true;
+} // namespace inside
 
 /* A pin on a map: object_map<T>::pin(). That of a const map is a pin<const T>. */
 template <class T> class pin {
 public:
-    /* The object at a key, or nullptr: also if the key is past SAMVOLIP_KEY_MAX. In a signal
-       handler in the middle of a call it is refused, and that is thrown. */
-    T *get(std::uint64_t key) const
+    /* The object at a key, or nullptr: also if there can't be such a key. In a signal handler in the
+       middle of a call it is refused, and that is thrown. A pin that ends with its expression, as
+       that of map.pin().get(7) does, gives nothing: what it gave would be gone with it. */
+    T *get(inside::key key) const && = delete;
+    T *get(inside::key key) const &
     {
         std::uint64_t value = 0;
         int code = samvolip_map_get(map_.get(), key, &value);
@@ -122,9 +131,13 @@ private:
 template <class T> class pinned {
 public:
     explicit operator bool() const noexcept { return object_ != nullptr; }
-    T &operator*() const noexcept { return *object_; }
     T *operator->() const noexcept { return object_; }
-    T *get() const noexcept { return object_; }
+    T &operator*() const & noexcept { return *object_; }
+    T *get() const & noexcept { return object_; }
+
+    /* As of a pin that ends with its expression. */
+    T &operator*() const && = delete;
+    T *get() const && = delete;
 
 private:
     template <class> friend class object_map;
@@ -181,7 +194,8 @@ public:
     object_map(object_map &&) noexcept = default;
     object_map &operator=(object_map &&other) noexcept
     {
-        std::swap(map_, other.map_); /* what was here ends with the other one */
+        object_map kept(std::move(other));
+        std::swap(map_, kept.map_); /* what was here ends with this one */
         return *this;
     }
 
@@ -210,11 +224,11 @@ public:
     /* ---- one key. Refused: key_range, value_range, out_of_memory ---- */
 
     /* Whether there is an object at a key. */
-    result<bool> contains(std::uint64_t key) const { return map_.contains(key); }
+    result<bool> contains(inside::key key) const { return map_.contains(key); }
 
     /* Puts an object at a key, and answers whether the key is new. nullptr erases the key, which then
        isn't. */
-    result<bool> insert_or_assign(std::uint64_t key, std::unique_ptr<T> &&object)
+    result<bool> insert_or_assign(inside::key key, std::unique_ptr<T> &&object)
     {
         const bool erases = !object;
         const result<bool> had = erases ? erase(key) : exchange([&](std::uint64_t *before) {
@@ -229,7 +243,7 @@ public:
 
     /* Puts an object at a key that has none, and answers whether it did; if not, it is the caller's
        still. nullptr is no object. */
-    result<bool> insert(std::uint64_t key, std::unique_ptr<T> &&object)
+    result<bool> insert(inside::key key, std::unique_ptr<T> &&object)
     {
         T *none = nullptr;
         if (!object)
@@ -240,7 +254,7 @@ public:
     /* Makes an object of these arguments and puts it at a key, if that has none, and answers whether
        it did. If there is one already, nothing is made. What the constructor throws goes through. */
     template <class... Arguments>
-    result<bool> try_emplace(std::uint64_t key, Arguments &&...arguments)
+    result<bool> try_emplace(inside::key key, Arguments &&...arguments)
     {
         const result<bool> there = contains(key);
         if (!there.has_value())
@@ -251,7 +265,7 @@ public:
     }
 
     /* Erases a key, and answers whether there was an object. */
-    result<bool> erase(std::uint64_t key)
+    result<bool> erase(inside::key key)
     {
         return exchange([&](std::uint64_t *before) {
             return samvolip_map_remove(native_handle(), key, before);
@@ -261,7 +275,7 @@ public:
     /* Erases a key if it has an object of which a predicate, a function of a const T &, says so; and
        answers whether it did. The very object is erased that was asked about: the predicate is asked
        again where another one took its place. What it throws goes through. */
-    template <class Predicate> result<bool> erase_if(std::uint64_t key, Predicate &&predicate)
+    template <class Predicate> result<bool> erase_if(inside::key key, Predicate &&predicate)
     {
         bool erased = false;
         const auto left = compute(key, [&](const T *there) -> computed<T> {
@@ -278,7 +292,7 @@ public:
        stands for none: expected, for a key without an object; the object, to erase the key. A pin
        stands since the expected one was got, so that no other object has its address. */
     template <class As, std::enable_if_t<std::is_same_v<const As, const T>, int> = 0>
-    result<bool> compare_exchange(std::uint64_t key, As *&expected, std::unique_ptr<T> &&object)
+    result<bool> compare_exchange(inside::key key, As *&expected, std::unique_ptr<T> &&object)
     {
         samvolip_reply reply = {0, 0, 0};
         const result<bool> had = exchange([&](std::uint64_t *before) -> int {
@@ -302,7 +316,7 @@ public:
        or `unchanged`, to leave it as it is; where it may answer several of these, it answers a
        computed<T>. It is called again where others' writes of the key came first, and may call the
        map; what it throws goes through. Answers what is there then. */
-    template <class Function> result<pinned<T>> compute(std::uint64_t key, Function &&function)
+    template <class Function> result<pinned<T>> compute(inside::key key, Function &&function)
     {
         auto own = try_pin();
         if (!own.has_value())

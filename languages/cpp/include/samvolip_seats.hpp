@@ -65,7 +65,7 @@ public:
     std::uint64_t size() const { return samvolip_ended_size(&handle_); }
 
     /* What is at a key. */
-    result<found> get(std::uint64_t key) const
+    result<found> get(inside::key key) const
     {
         std::uint64_t value = 0;
         const int code = samvolip_ended_get(&handle_, key, &value);
@@ -129,50 +129,50 @@ public:
     /* ---- the calls of samvolip::map, which answer the same. One for which there is no slot is
        refused as full ---- */
 
-    result<found> get(std::uint64_t key) { return told<samvolip_get>(key); }
-    result<bool> contains(std::uint64_t key) { return is_so<samvolip_contains>(key); }
-    result<bool> insert_or_assign(std::uint64_t key, std::uint64_t value)
+    result<found> get(inside::key key) { return told<samvolip_get>(key); }
+    result<bool> contains(inside::key key) { return is_so<samvolip_contains>(key); }
+    result<bool> insert_or_assign(inside::key key, std::uint64_t value)
     {
         const int code = samvolip_put(&handle_, key, value, nullptr);
         return inside::answer(code, code == SAMVOLIP_ABSENT);
     }
-    result<emplaced> try_emplace(std::uint64_t key, std::uint64_t value)
+    result<emplaced> try_emplace(inside::key key, std::uint64_t value)
     {
         std::uint64_t there = 0;
         const int code = samvolip_get_or_insert(&handle_, key, value, &there);
         return inside::answer(code, emplaced{there, code == SAMVOLIP_ABSENT});
     }
-    result<found> exchange(std::uint64_t key, std::uint64_t value)
+    result<found> exchange(inside::key key, std::uint64_t value)
     {
         return told<samvolip_put>(key, value);
     }
-    result<found> replace(std::uint64_t key, std::uint64_t value)
+    result<found> replace(inside::key key, std::uint64_t value)
     {
         return told<samvolip_replace>(key, value);
     }
-    result<found> add(std::uint64_t key, std::uint64_t value)
+    result<found> add(inside::key key, std::uint64_t value)
     {
         return told<samvolip_add>(key, value);
     }
-    result<found> fetch_max(std::uint64_t key, std::uint64_t value)
+    result<found> fetch_max(inside::key key, std::uint64_t value)
     {
         return told<samvolip_fetch_max>(key, value);
     }
-    result<found> fetch_min(std::uint64_t key, std::uint64_t value)
+    result<found> fetch_min(inside::key key, std::uint64_t value)
     {
         return told<samvolip_fetch_min>(key, value);
     }
-    result<bool> erase(std::uint64_t key) { return is_so<samvolip_remove>(key, nullptr); }
-    result<found> extract(std::uint64_t key) { return told<samvolip_remove>(key); }
-    result<bool> replace_if(std::uint64_t key, std::uint64_t old, std::uint64_t value)
+    result<bool> erase(inside::key key) { return is_so<samvolip_remove>(key, nullptr); }
+    result<found> extract(inside::key key) { return told<samvolip_remove>(key); }
+    result<bool> replace_if(inside::key key, std::uint64_t old, std::uint64_t value)
     {
         return is_so<samvolip_replace_if>(key, old, value);
     }
-    result<bool> erase_if(std::uint64_t key, std::uint64_t value)
+    result<bool> erase_if(inside::key key, std::uint64_t value)
     {
         return is_so<samvolip_remove_if>(key, value);
     }
-    result<bool> compare_exchange(std::uint64_t key, found &expected, found next)
+    result<bool> compare_exchange(inside::key key, found &expected, found next)
     {
         samvolip_reply reply = {0, 0, 0};
         int code;
@@ -182,13 +182,14 @@ public:
         while (code == SAMVOLIP_E_CONTENDED && samvolip_rest());
         return inside::exchanged(code, reply, expected);
     }
-    template <class Function> result<found> update(std::uint64_t key, Function &&function)
+    template <class Function> result<found> update(inside::key key, Function &&function)
     {
         return inside::update(*this, key, function);
     }
 
-    inside::iterator<seat_walk> begin() { return inside::iterator<seat_walk>(walk()); }
-    inside::end end() const noexcept { return {}; }
+    using iterator = inside::iterator<seat_walk>;
+    iterator begin() { return iterator(walk()); }
+    iterator end() const noexcept { return {}; }
     seat_walk walk() { return seat_walk(&handle_); }
 
     /* ---- how the map is. These are never refused ---- */

@@ -3,6 +3,7 @@
 
 #include "../../c/tests/expect.h"
 
+#include <algorithm>
 #include <csignal>
 #include <map>
 #include <set>
@@ -144,12 +145,30 @@ template <class Caller> void refuses(Caller &caller)
 #endif
 }
 
+// A negative number is no key, and no value, of whatever type it is: its bits would be those of a key else.
+template <class Caller> void takes_signed_numbers(Caller &caller)
+{
+    EXPECT(caller.add(7, 1).value() == std::nullopt && caller.add(7u, 1).value() == 1u && caller.extract(7l).value() == 2u);
+    const int i = -3;
+    EXPECT(is_refused(caller.add(i, 1), fault::key_range) && is_refused(caller.get(i), fault::key_range));
+    EXPECT(is_refused(caller.insert_or_assign(INT64_MIN, 1), fault::key_range) && is_refused(caller.erase(-1), fault::key_range));
+    EXPECT(is_refused(caller.try_emplace(short(-300), 1), fault::key_range) && is_refused(caller.contains(-1000ll), fault::key_range));
+    EXPECT(is_refused(caller.update(i, next_of), fault::key_range) && is_refused(caller.erase_if(i, 1), fault::key_range));
+    EXPECT(is_refused(caller.add(7, i), fault::value_range) && is_refused(caller.add(7, INT64_MIN), fault::value_range));
+    EXPECT(caller.add(i, 1).error().message() == std::string("a key is from 0 to 2^64 - 3"));
+    EXPECT(caller.add(7, i).error().message() == std::string("a value is from 0 to 2^60 - 1"));
+    EXPECT(caller.add(static_cast<std::uint64_t>(i), 1).has_value() && caller.extract(SAMVOLIP_KEY_MAX).value() == 1u);
+    enum kind { first = 1 };
+    EXPECT(caller.add(first, 1).value() == std::nullopt && caller.add(true, 1).value() == 1u && caller.extract('\1').value() == 2u);
+}
+
 template <class Caller> void calls(Caller &caller)
 {
     writes(caller);
     exchanges(caller);
     updates(caller);
     refuses(caller);
+    takes_signed_numbers(caller);
     EXPECT(caller.erase(7).has_value() && caller.erase(8).has_value());
 }
 
@@ -240,6 +259,19 @@ void walks(keys how)
     for (auto at = map.begin(); at != map.end(); at++)
         EXPECT(at->key == at->value * 65536 && !(at == map.end()) && (*at).value < 300);
 
+    // what takes two iterators takes these
+    const std::vector all(map.begin(), map.end());
+    static_assert(std::is_same_v<decltype(all), const std::vector<samvolip::entry>>);
+    std::set<std::uint64_t> keys;
+    for (auto [key, value] : all)
+        EXPECT(keys.insert(key).second && map.get(key).value() == value);
+    EXPECT(all.size() == 300 && std::distance(map.begin(), map.end()) == 300);
+    const auto is_small = [](const samvolip::entry &one) { return one.value < 20; };
+    EXPECT(std::count_if(map.begin(), map.end(), is_small) == 20 && std::find_if(map.begin(), map.end(), is_small)->value < 20);
+    auto first = map.begin();
+    const auto before = *first++, behind = *first;
+    EXPECT(before.key != behind.key && samvolip::map().begin() == samvolip::map::iterator());
+
     // a walk shows what there was where it began, through renewals and a clear, and moves
     samvolip::walk walk = map.walk().value(), other = map.walk().value();
     std::set<std::uint64_t> shown;
@@ -310,29 +342,27 @@ void opens_and_moves()
     std::swap(maps.one, maps.other);
     EXPECT(maps.one.get(1).value() == 1u && samvolip_map_contains(maps.one.native_handle(), 1) == 1);
 
-    samvolip::options options;
-    EXPECT(samvolip::map::open().has_value() && samvolip::map::open(options)->size().value() == 0);
-    options.growth = 65;
-    EXPECT(is_refused(samvolip::map::open(options), fault::options));
-    options = {};
-    options.threads = SAMVOLIP_MAP_MOST_THREADS + 1;
-    EXPECT(is_refused(samvolip::map::open(options), fault::options));
-    options = {};
-    options.keys = static_cast<keys>(3);
-    EXPECT(is_refused(samvolip::map::open(options), fault::options));
-    options = {};
-    options.room = UINT64_MAX;
-    const auto refused = samvolip::map::open(options);
-    EXPECT(is_refused(refused, fault::options) && std::string(refused.error().message()) == "an option out of range");
-    options = {};
-    options.memory = 1000;
-    EXPECT(is_refused(samvolip::map::open(options), fault::options));
+    EXPECT(samvolip::map::open().has_value() && samvolip::map::open({})->size().value() == 0);
+    const auto refusal_of = [](auto change) {
+        samvolip::options options;
+        change(options);
+        const auto answer = samvolip::map::open(options);
+        EXPECT(is_refused(answer, fault::options));
+        return std::string(answer.error().message());
+    };
+    EXPECT(refusal_of([](samvolip::options &how) { how.growth = 65; }) == "growth: from 2 to 64 times");
+    EXPECT(refusal_of([](samvolip::options &how) { how.threads = 1000; }) == "threads: at most 240");
+    EXPECT(refusal_of([](samvolip::options &how) { how.keys = static_cast<keys>(3); }) == "keys: secret, mixed, or as they are");
+    EXPECT(refusal_of([](samvolip::options &how) { how.room = UINT64_MAX; }) == "room: for at most 178956970 keys");
+    EXPECT(refusal_of([](samvolip::options &how) { how.memory = 1000; }).rfind("memory: at least that of two first tables", 0) == 0);
 #ifdef __cpp_exceptions
     bool thrown = false;
     try {
+        samvolip::options options;
+        options.threads = 1000;
         samvolip::map never(options);
     } catch (const samvolip::refused &what) {
-        thrown = what.error().why() == fault::options && std::string(what.what()) == "samvolip: an option out of range";
+        thrown = what.error().why() == fault::options && std::string(what.what()) == "samvolip: threads: at most 240";
     }
     EXPECT(thrown);
 #endif

@@ -48,6 +48,17 @@ void of_a_map()
             sum += next->key == next->value << 16 ? next->value : 0;
         EXPECT(shown == 200 && sum == 199 * 200 / 2);
     }
+    const auto loop = [&]() -> samvolip::result<std::size_t> {
+        try {
+            std::size_t shown = 0;
+            for (auto [key, value] : map)
+                shown += key == value << 16;
+            return shown;
+        } catch (const samvolip::refused &what) {
+            return what.error();
+        }
+    };
+    EXPECT(made(loop) == 200);
     EXPECT(map.size().value() == 200);
     std::uint64_t gone = 0;
     made([&] { return map.clear([&](std::uint64_t, std::uint64_t) { gone++; }); });

@@ -41,8 +41,29 @@ std::unique_ptr<counted> fresh(std::uint64_t number) { return std::make_unique<c
 static_assert(!std::is_copy_constructible_v<object_map<counted>> && std::is_nothrow_move_constructible_v<object_map<counted>>);
 static_assert(!std::is_copy_constructible_v<samvolip::pin<counted>> && std::is_nothrow_move_constructible_v<samvolip::pin<counted>>);
 static_assert(std::is_nothrow_move_assignable_v<object_map<counted>> && std::is_nothrow_move_assignable_v<samvolip::pin<counted>>);
-static_assert(std::is_same_v<decltype(std::declval<object_map<counted> &>().pin().get(1)), counted *>);
-static_assert(std::is_same_v<decltype(std::declval<const object_map<counted> &>().pin().get(1)), const counted *>);
+static_assert(std::is_same_v<decltype(std::declval<object_map<counted> &>().pin()), samvolip::pin<counted>>);
+static_assert(std::is_same_v<decltype(std::declval<const object_map<counted> &>().pin()), samvolip::pin<const counted>>);
+
+// Of what has a name a pointer may be had, and not of what ends with its expression: `map.pin().get(1)`, `map.try_pin()->get(1)`.
+template <class Pin, class = void> constexpr bool gives = false;
+template <class Pin> constexpr bool gives<Pin, std::void_t<decltype(std::declval<Pin>().get(1))>> = true;
+template <class Pinned, class = void> constexpr bool is_had = false;
+template <class Pinned> constexpr bool is_had<Pinned, std::void_t<decltype(std::declval<Pinned>().get(), *std::declval<Pinned>())>> = true;
+template <class Answer, class = void> constexpr bool leads_on = false;
+template <class Answer> constexpr bool leads_on<Answer, std::void_t<decltype(std::declval<Answer>().operator->())>> = true;
+using pin_of = samvolip::pin<counted>;
+using pinned_of = samvolip::pinned<counted>;
+static_assert(gives<pin_of &> && gives<const pin_of &> && !gives<pin_of> && !gives<const pin_of>);
+static_assert(is_had<pinned_of &> && is_had<const pinned_of &> && !is_had<pinned_of> && !is_had<const pinned_of>);
+static_assert(leads_on<samvolip::result<pin_of> &> && !leads_on<samvolip::result<pin_of>> && !leads_on<samvolip::result<pinned_of>>);
+static_assert(leads_on<samvolip::result<samvolip_map_figures>>);
+
+// What is at a key of a map of which nobody else takes it out.
+template <class Map> auto &at(Map &map, std::uint64_t key)
+{
+    const auto pin = map.pin();
+    return *pin.get(key);
+}
 
 // ---- calls of one key
 
@@ -55,7 +76,7 @@ void puts_and_gets()
     counted *there = pin.get(7);
     EXPECT(there->number == 2 && pin.get(8) == nullptr && pin.get(SAMVOLIP_KEY_MAX + 1) == nullptr);
     there->number = 3;
-    EXPECT(std::as_const(map).pin().get(7)->number == 3);
+    EXPECT(at(std::as_const(map), 7).number == 3);
     EXPECT(map.erase(7).value() && !map.erase(7).value() && !map.contains(7).value() && pin.get(7) == nullptr);
     map.collect().value();
     EXPECT(there->number == 3 && there->mark == 7); // the pin keeps it
@@ -73,10 +94,10 @@ void emplaces()
 {
     object_map<counted> map;
     EXPECT(map.try_emplace(7, 1u, "one").value() && !map.try_emplace(7, 2u).value());
-    EXPECT(map.pin().get(7)->text == "one" && alive == 1);
+    EXPECT(at(map, 7).text == "one" && alive == 1);
     auto mine = fresh(3);
     EXPECT(!map.insert(7, std::move(mine)).value() && mine && map.insert(8, std::move(mine)).value() && !mine);
-    EXPECT(map.pin().get(8)->number == 3 && map.size().value() == 2 && map.size_estimate().value() == 2);
+    EXPECT(at(map, 8).number == 3 && map.size().value() == 2 && map.size_estimate().value() == 2);
 }
 
 void erases()
@@ -100,7 +121,7 @@ void erases()
                        EXPECT(!map.insert_or_assign(1, fresh(2)).value());
                    return there.number == 1;
                }).value());
-    EXPECT(asked == 2 && map.pin().get(1)->number == 2);
+    EXPECT(asked == 2 && at(map, 1).number == 2);
 }
 
 void exchanges()
@@ -127,7 +148,7 @@ void computes()
     const auto more = [](const counted *there) { return fresh(there ? there->number + 1 : 1); };
     for (unsigned i = 0; i < 1000; i++)
         EXPECT(map.compute(7, more).value()->number == i + 1);
-    EXPECT(map.pin().get(7)->number == 1000 && map.object_figures()->retired == 999);
+    EXPECT(at(map, 7).number == 1000 && map.object_figures()->retired == 999);
 
     // it erases, or leaves as it is, and answers what is there then, which its own pin keeps
     using samvolip::computed;
@@ -156,7 +177,7 @@ void computes()
             map.insert_or_assign(7, fresh(10 * calls)).value();
         return fresh(there ? there->number + 1 : 1);
     };
-    EXPECT(map.compute(7, disturbed).value()->number == 21 && calls == 3 && map.pin().get(7)->number == 21);
+    EXPECT(map.compute(7, disturbed).value()->number == 21 && calls == 3 && at(map, 7).number == 21);
 }
 
 // ---- refusals
@@ -183,7 +204,18 @@ void refusals()
     }
     samvolip::options options;
     options.threads = 1000;
-    EXPECT(object_map<counted>::open(options).error().why() == fault::options);
+    const auto refused = object_map<counted>::open(options);
+    EXPECT(refused.error().why() == fault::options && refused.error().message() == std::string("threads: at most 240"));
+
+    // a negative key is none
+    object_map<counted> small;
+    const int negative = -3;
+    mine = fresh(1);
+    EXPECT(small.insert_or_assign(negative, std::move(mine)).error().why() == fault::key_range && mine);
+    EXPECT(small.try_emplace(negative, 1u).error().why() == fault::key_range);
+    const auto pin = small.pin();
+    EXPECT(pin.get(negative) == nullptr && small.size().value() == 0);
+    EXPECT(small.erase(negative).error().why() == fault::key_range && small.contains(negative).error().why() == fault::key_range);
 }
 
 // What a function or a constructor throws goes through, and nothing is lost.
@@ -219,7 +251,7 @@ void throws()
         } catch (const thrown &) {
             caught++;
         }
-    EXPECT(caught == 5 && map.pin().get(7)->number == 1 && others.size().value() == 0);
+    EXPECT(caught == 5 && at(map, 7).number == 1 && others.size().value() == 0);
     map.insert_or_assign(7, fresh(2)).value();
     map.collect().value();
     EXPECT(alive == 1); // no pin has stayed
@@ -262,9 +294,15 @@ void moves()
     one.insert_or_assign(1, fresh(2)).value(); // one is retired
     other.insert_or_assign(2, fresh(3)).value();
     other = std::move(one);
-    EXPECT(other.pin().get(1)->number == 2 && !other.contains(2).value());
+    EXPECT(at(other, 1).number == 2 && !other.contains(2).value() && other.size().value() == 1);
+    EXPECT(one.native_handle() == nullptr && alive == 2); // as a moved map: it is empty, and what was in the other one is deleted
+    object_map<counted> &same = other;
+    other = std::move(same);
+    EXPECT(at(other, 1).number == 2 && alive == 2);
+    one = object_map<counted>();
+    EXPECT(one.insert_or_assign(5, fresh(5)).value() && at(one, 5).number == 5);
     object_map<counted> third(std::move(other));
-    EXPECT(third.pin().get(1)->number == 2);
+    EXPECT(at(third, 1).number == 2);
     third.leave();
     auto opened = object_map<counted>::open();
     opened->insert_or_assign(1, fresh(4)).value();
@@ -298,11 +336,11 @@ void other_objects()
         object_map<shape> shapes;
         shapes.insert_or_assign(1, std::make_unique<square>()).value();
         shapes.insert_or_assign(1, std::make_unique<square>()).value();
-        EXPECT(shapes.pin().get(1)->corners() == 4);
+        EXPECT(at(shapes, 1).corners() == 4);
         object_map<const counted> constant;
         constant.insert_or_assign(1, fresh(1)).value();
         constant.compute(1, [](const counted *there) { return fresh(there->number + 1); }).value();
-        EXPECT(constant.pin().get(1)->number == 2);
+        EXPECT(at(constant, 1).number == 2);
     }
     EXPECT(alive == 0);
     object_map<link> links;
@@ -353,7 +391,7 @@ void counts_through_renewals()
     });
     std::uint64_t sum = 0;
     for (std::uint64_t key = 0; key < keys; key++)
-        sum += map.pin().get(key)->number;
+        sum += at(map, key).number;
     EXPECT(sum == std::uint64_t{threads} * rounds && map.size().value() == keys + put - erased - expired);
     map.collect().value();
     EXPECT(map.object_figures()->waiting == 0 && static_cast<std::uint64_t>(alive) == map.size().value());
