@@ -126,8 +126,6 @@ final class BoxedMap extends AbstractMap<Long, Long> implements ConcurrentMap<Lo
         public Iterator<E> iterator() {
             Walk walk = new Walk(map);
             return new Iterator<>() {
-                private Long last;
-
                 @Override
                 public boolean hasNext() {
                     return walk.hasNext();
@@ -136,15 +134,12 @@ final class BoxedMap extends AbstractMap<Long, Long> implements ConcurrentMap<Lo
                 @Override
                 public E next() {
                     samvolip.Entry next = walk.next();
-                    last = next.key();
-                    return part(last, next.value());
+                    return part(next.key(), next.value());
                 }
 
                 @Override
                 public void remove() {
-                    if (last == null) throw new IllegalStateException("nothing was shown, or it was removed");
-                    map.remove(last.longValue());
-                    last = null;
+                    walk.remove();
                 }
             };
         }

@@ -61,6 +61,12 @@ final class Functions {
         return word;
     }
 
+    /** The same of a call of a key, with a value if it has one. */
+    static long made(long word, long key, long value) {
+        if (word < 0 && word != NONE) throw Refused.at(Code.of((int) word), key, value);
+        return word;
+    }
+
     /** What a method handle threw, to be thrown on. */
     static RuntimeException wrong(Throwable thrown) {
         if (thrown instanceof RuntimeException runtime) return runtime;

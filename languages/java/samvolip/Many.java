@@ -31,7 +31,7 @@ final class Many {
                 }
             }
         } catch (Refused refused) {
-            throw new Refused(refused.code(), refused.code().text() + " at place " + from + "; the calls before it were made");
+            throw refused.atPlace(from);
         } catch (Throwable thrown) {
             throw Functions.wrong(thrown);
         } finally {

@@ -13,6 +13,7 @@ import java.util.Iterator;
 import java.util.List;
 import java.util.Objects;
 import java.util.OptionalLong;
+import java.util.StringJoiner;
 import java.util.concurrent.ConcurrentMap;
 import java.util.function.LongBinaryOperator;
 import java.util.function.LongUnaryOperator;
@@ -30,6 +31,9 @@ import java.util.function.UnaryOperator;
  * and help.
  */
 public final class SamvolipMap implements AutoCloseable, Iterable<Entry> {
+    /** How many entries toString shows. */
+    private static final int MOST_SHOWN = 100;
+
     private final long at;
     private final Cleaner.Cleanable freed;
     private volatile boolean isClosed;
@@ -101,12 +105,16 @@ public final class SamvolipMap implements AutoCloseable, Iterable<Entry> {
 
     private long word(MethodHandle call, long key) {
         try {
-            return made((long) call.invokeExact(at(), key));
+            return made((long) call.invokeExact(at(), key), key, 0);
         } catch (Throwable thrown) {
             throw Functions.wrong(thrown);
         } finally {
             Reference.reachabilityFence(this);
         }
+    }
+
+    private static boolean isValue(long value) {
+        return value >= 0 && value <= Keys.VALUE_MAX;
     }
 
     private static OptionalLong found(long word) {
@@ -127,7 +135,7 @@ public final class SamvolipMap implements AutoCloseable, Iterable<Entry> {
     /** What is at a key, or another value. */
     public long getOrDefault(long key, long other) {
         try {
-            long word = made(read(key));
+            long word = made(read(key), key, 0);
             return word == NONE ? other : word;
         } catch (Throwable thrown) {
             throw Functions.wrong(thrown);
@@ -144,7 +152,7 @@ public final class SamvolipMap implements AutoCloseable, Iterable<Entry> {
     /** Puts a value at a key, and answers what was there. */
     public OptionalLong put(long key, long value) {
         try {
-            return found(made((long) Functions.PUT.invokeExact(at(), key, value)));
+            return found(made((long) Functions.PUT.invokeExact(at(), key, value), key, value));
         } catch (Throwable thrown) {
             throw Functions.wrong(thrown);
         } finally {
@@ -155,7 +163,7 @@ public final class SamvolipMap implements AutoCloseable, Iterable<Entry> {
     /** Puts a value at a key that has none, and answers what was there. */
     public OptionalLong putIfAbsent(long key, long value) {
         try {
-            return found(made((long) Functions.PUT_IF_ABSENT.invokeExact(at(), key, value)));
+            return found(made((long) Functions.PUT_IF_ABSENT.invokeExact(at(), key, value), key, value));
         } catch (Throwable thrown) {
             throw Functions.wrong(thrown);
         } finally {
@@ -166,7 +174,7 @@ public final class SamvolipMap implements AutoCloseable, Iterable<Entry> {
     /** Adds a value to what is at a key, or to 0, and answers what was there. May be refused as {@link Code#E_SUM_RANGE}, too. */
     public OptionalLong add(long key, long value) {
         try {
-            return found(made((long) Functions.ADD.invokeExact(at(), key, value)));
+            return found(made((long) Functions.ADD.invokeExact(at(), key, value), key, value));
         } catch (Throwable thrown) {
             throw Functions.wrong(thrown);
         } finally {
@@ -177,7 +185,7 @@ public final class SamvolipMap implements AutoCloseable, Iterable<Entry> {
     /** Puts a value at a key that has a smaller one or none, and answers what was there. */
     public OptionalLong fetchMax(long key, long value) {
         try {
-            return found(made((long) Functions.FETCH_MAX.invokeExact(at(), key, value)));
+            return found(made((long) Functions.FETCH_MAX.invokeExact(at(), key, value), key, value));
         } catch (Throwable thrown) {
             throw Functions.wrong(thrown);
         } finally {
@@ -188,7 +196,7 @@ public final class SamvolipMap implements AutoCloseable, Iterable<Entry> {
     /** Puts a value at a key that has a greater one or none, and answers what was there. */
     public OptionalLong fetchMin(long key, long value) {
         try {
-            return found(made((long) Functions.FETCH_MIN.invokeExact(at(), key, value)));
+            return found(made((long) Functions.FETCH_MIN.invokeExact(at(), key, value), key, value));
         } catch (Throwable thrown) {
             throw Functions.wrong(thrown);
         } finally {
@@ -199,7 +207,7 @@ public final class SamvolipMap implements AutoCloseable, Iterable<Entry> {
     /** Puts a value in place of another, and answers what was there. */
     public OptionalLong replace(long key, long value) {
         try {
-            return found(made((long) Functions.REPLACE.invokeExact(at(), key, value)));
+            return found(made((long) Functions.REPLACE.invokeExact(at(), key, value), key, value));
         } catch (Throwable thrown) {
             throw Functions.wrong(thrown);
         } finally {
@@ -210,7 +218,7 @@ public final class SamvolipMap implements AutoCloseable, Iterable<Entry> {
     /** Puts a value in place of this one, and answers whether it did. */
     public boolean replace(long key, long old, long value) {
         try {
-            return made((int) Functions.REPLACE_IF.invokeExact(at(), key, old, value)) == PRESENT;
+            return made((int) Functions.REPLACE_IF.invokeExact(at(), key, old, value), key, isValue(old) ? value : old) == PRESENT;
         } catch (Throwable thrown) {
             throw Functions.wrong(thrown);
         } finally {
@@ -226,7 +234,7 @@ public final class SamvolipMap implements AutoCloseable, Iterable<Entry> {
     /** Takes out a key that has this value, and answers whether it did. */
     public boolean remove(long key, long value) {
         try {
-            return made((int) Functions.REMOVE_IF.invokeExact(at(), key, value)) == PRESENT;
+            return made((int) Functions.REMOVE_IF.invokeExact(at(), key, value), key, value) == PRESENT;
         } catch (Throwable thrown) {
             throw Functions.wrong(thrown);
         } finally {
@@ -377,7 +385,7 @@ public final class SamvolipMap implements AutoCloseable, Iterable<Entry> {
     /**
      * A walk over the map's keys, while all threads may write it, this one too; any number at a time, in one another or not. No key is
      * shown twice, and each key that the map has all the while is shown, with a value that it had meanwhile. One thread at a time
-     * goes on with it.
+     * goes on with it. It can remove: the key that it showed last, whatever its value is by then.
      */
     @Override
     public Iterator<Entry> iterator() {
@@ -391,6 +399,20 @@ public final class SamvolipMap implements AutoCloseable, Iterable<Entry> {
             shown.accept(key, value);
             return false;
         });
+    }
+
+    /** Entries as those of a ConcurrentHashMap are shown; of a large map a hundred, and then '..'. */
+    @Override
+    public String toString() {
+        if (isClosed) return "closed";
+        StringJoiner all = new StringJoiner(", ", "{", "}");
+        int[] shown = new int[1];
+        any((key, value) -> {
+            boolean isLast = ++shown[0] > MOST_SHOWN;
+            all.add(isLast ? ".." : new Entry(key, value).toString());
+            return isLast;
+        });
+        return all.toString();
     }
 
     /** Whether the test says so of an entry of a walk, which ends there. */

@@ -50,6 +50,9 @@ final class Walk implements Iterator<Entry> {
     private final long[] some = new long[2 * SOME];
     private int next, count;
     private boolean isOver;
+    /** The key that was shown last, and whether it can be removed. */
+    private long last;
+    private boolean canRemove;
 
     Walk(SamvolipMap map) {
         held = new Held(map);
@@ -103,6 +106,15 @@ final class Walk implements Iterator<Entry> {
         if (!hasNext()) throw new NoSuchElementException();
         Entry entry = new Entry(key(), value());
         pass();
+        last = entry.key();
+        canRemove = true;
         return entry;
+    }
+
+    @Override
+    public void remove() {
+        if (!canRemove) throw new IllegalStateException("nothing was shown, or it was removed");
+        held.map.remove(last);
+        canRemove = false;
     }
 }

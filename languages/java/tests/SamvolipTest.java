@@ -12,6 +12,7 @@ import java.util.Map;
 import java.util.NoSuchElementException;
 import java.util.OptionalLong;
 import java.util.concurrent.CompletableFuture;
+import java.util.concurrent.ConcurrentHashMap;
 import java.util.concurrent.ConcurrentMap;
 import java.util.concurrent.ExecutorService;
 import java.util.concurrent.Executors;
@@ -49,6 +50,15 @@ public final class SamvolipTest {
             call.run();
         } catch (Refused refused) {
             return refused.code();
+        }
+        throw new AssertionError("it wasn't refused");
+    }
+
+    private static String textOf(Runnable call) {
+        try {
+            call.run();
+        } catch (Refused refused) {
+            return refused.getMessage();
         }
         throw new AssertionError("it wasn't refused");
     }
@@ -137,12 +147,10 @@ public final class SamvolipTest {
             good.withRoom(1L << 28), good.withMemory(1000), good.withMemory(2 * 2048 * 16 - 1),
         };
         for (Options options : wrong) expect(refused(() -> new SamvolipMap(options)), Code.E_OPTIONS);
-        try {
-            new SamvolipMap(good.withThreads(241));
-            throw new AssertionError();
-        } catch (Refused refused) {
-            expect(refused.getMessage(), "threads: at most 240 (E_OPTIONS)");
-        }
+        expect(textOf(() -> new SamvolipMap(good.withThreads(1000))), "threads: at most 240 (E_OPTIONS)");
+        expect(textOf(() -> new SamvolipMap(good.withGrowth(65))), "growth: from 2 to 64 times (E_OPTIONS)");
+        expect(textOf(() -> new SamvolipMap(good.withRoom(-1))), "room: for at most 178956970 keys (E_OPTIONS)");
+        expect(textOf(() -> new SamvolipMap(good.withMemory(1000))).startsWith("memory: at least that of two first tables"));
         try (SamvolipMap map = new SamvolipMap(good.withRoom(20).withMemory(3 * 512))) { // a table of 32 slots, and one of 64
             expect(refused(() -> {
                 for (long key = 0; key < 100; key++) map.put(key, key);
@@ -195,12 +203,11 @@ public final class SamvolipTest {
                 expect(refused(() -> map.putMany(new long[] {4}, -1)), Code.E_VALUE_RANGE);
                 expect(refused(() -> map.addMany(new long[] {5, 1, 6}, new long[] {1, Keys.VALUE_MAX, 1})), Code.E_SUM_RANGE);
                 expect(map.getMany(new long[] {1, 5, 6}, 0)[1] == 1 && !map.containsKey(6));
-                try {
-                    map.addMany(new long[] {7, 7, 7}, new long[] {Keys.VALUE_MAX, 0, 1});
-                    throw new AssertionError();
-                } catch (Refused refused) {
-                    expect(refused.getMessage(), "sum too large at place 2; the calls before it were made (E_SUM_RANGE)");
-                }
+                expect(textOf(() -> map.addMany(new long[] {7, 7, 7}, new long[] {Keys.VALUE_MAX, 0, 1})),
+                    "the sum at the key 7, with 1 more, is past 1152921504606846975, at place 2; the calls before it were made "
+                        + "(E_SUM_RANGE)");
+                expect(textOf(() -> map.getMany(new long[] {7, -2}, 0)), "the key 18446744073709551614 (-2 as a signed long) is past "
+                    + "18446744073709551613, at place 1; the calls before it were made (E_KEY_RANGE)");
                 expect(throwsAs(IllegalArgumentException.class, () -> map.putMany(new long[2], new long[3])));
                 map.close();
                 expect(illegal(() -> map.getMany(new long[0], 0)), "the map was closed");
@@ -363,6 +370,72 @@ public final class SamvolipTest {
             expect(map.figures().renewals() > 3);
         } finally {
             pool.shutdown();
+        }
+    }
+
+    /** What a refusal says: the key, and the limit. */
+    private static void refusals() {
+        try (SamvolipMap map = new SamvolipMap()) {
+            String key = "the key 18446744073709551615 (-1 as a signed long) is past 18446744073709551613 (E_KEY_RANGE)";
+            List<Runnable> keys = List.of(() -> map.get(-1), () -> map.containsKey(-1), () -> map.put(-1, 1), () -> map.remove(-1),
+                () -> map.remove(-1, 1), () -> map.replace(-1, 1, 1), () -> map.merge(-1, 1, Long::sum),
+                () -> map.computeIfAbsent(-1, made -> 1));
+            for (Runnable call : keys) expect(textOf(call), key);
+            String value = "the value 1152921504606846976 for the key 18446744073709551613 is not from 0 to 1152921504606846975 "
+                + "(E_VALUE_RANGE)";
+            long past = Keys.VALUE_MAX + 1;
+            List<Runnable> values = List.of(() -> map.put(Keys.KEY_MAX, past), () -> map.add(Keys.KEY_MAX, past),
+                () -> map.replace(Keys.KEY_MAX, past, 1), () -> map.replace(Keys.KEY_MAX, 1, past), () -> map.remove(Keys.KEY_MAX, past),
+                () -> map.fetchMax(Keys.KEY_MAX, past), () -> map.update(Keys.KEY_MAX, found -> of(past)));
+            for (Runnable call : values) expect(textOf(call), value);
+            expect(textOf(() -> map.put(7, -1)), "the value -1 for the key 7 is not from 0 to 1152921504606846975 (E_VALUE_RANGE)");
+            map.put(7, Keys.VALUE_MAX);
+            expect(textOf(() -> map.add(7, 3)), "the sum at the key 7, with 3 more, is past 1152921504606846975 (E_SUM_RANGE)");
+        }
+        try (SamvolipMap map = new SamvolipMap(new Options().withRoom(20).withMemory(2 * 512))) {
+            for (long key = 0; key < 32; key++) map.put(key, key);
+            expect(textOf(() -> map.put(32, 1)), "out of memory for the key 32 (E_OUT_OF_MEMORY)");
+        }
+    }
+
+    /** A map is shown as a ConcurrentHashMap is, but no more than a hundred entries. */
+    private static void texts() {
+        try (SamvolipMap map = new SamvolipMap(new Options().withKeys(Keys.AS_THEY_ARE))) {
+            ConcurrentHashMap<Long, Long> other = new ConcurrentHashMap<>();
+            expect(map.toString(), "{}");
+            for (long key = 1; key <= 100; key++) {
+                map.put(key, key * 2);
+                other.put(key, key * 2);
+                if (key <= 2 || key == 100) expect(map.toString(), other.toString());
+            }
+            map.put(101, 1);
+            String shown = map.toString();
+            expect(shown.startsWith("{1=2, 2=4, ") && shown.endsWith(", 100=200, ..}"));
+            map.clear();
+            map.put(Keys.KEY_MAX, 5);
+            expect(map.toString(), "{18446744073709551613=5}");
+            map.close();
+            expect(map.toString(), "closed");
+        }
+    }
+
+    /** A walk removes what it showed last, once, as that of the view does. */
+    private static void removesByWalks() {
+        try (SamvolipMap map = new SamvolipMap()) {
+            for (long key = 0; key < 300; key++) map.put(key, key);
+            Iterator<Entry> walk = map.iterator();
+            expect(illegal(walk::remove), "nothing was shown, or it was removed");
+            while (walk.hasNext()) {
+                Entry entry = walk.next();
+                if (entry.key() % 3 != 0) continue;
+                map.put(entry.key(), 1000);
+                walk.hasNext();
+                walk.remove();
+                expect(!map.containsKey(entry.key()));
+                expect(illegal(walk::remove), "nothing was shown, or it was removed");
+            }
+            expect(map.size(), 200L);
+            expect(illegal(map.asConcurrentMap().keySet().iterator()::remove), "nothing was shown, or it was removed");
         }
     }
 
@@ -575,7 +648,10 @@ public final class SamvolipTest {
         manyThreads();
         pools();
         virtualThreads();
+        refusals();
+        texts();
         walks();
+        removesByWalks();
         walksOverRenewals();
         view();
         viewBesideThreads();
