@@ -296,18 +296,44 @@ int samvolip_map_collect(samvolip_map *map)
     return SAMVOLIP_OK;
 }
 
+static inline bool has_some(const batch *one) { return one && one->count > 0; }
+
+/* Locked: whether something waits in an open batch. All pins keep that. */
+static bool has_open(const objects *of)
+{
+    place *one = of->places;
+    while (one && !has_some(one->open))
+        one = one->after;
+    return one != NULL;
+}
+
+/* Locked: for how long, or longer, a pin stands that keeps something; 0: none does. It began before the first batch that it keeps was
+   queued, and before a tick that is later than its note: a look makes such a tick, and notes the time of it for the next look. */
+static uint64_t age_of_oldest_pin(objects *of)
+{
+    uint64_t note = earliest(of, UINT64_MAX), now = nanoseconds();
+    batch *kept = of->first;
+    while (kept && (kept->stamp <= note || !has_some(kept)))
+        kept = kept->after;
+    if (note == UINT64_MAX || !(kept || has_open(of)))
+        return 0;
+    if (note >= of->looked) {
+        of->looked = atomic_fetch_add(&of->clock, 1) + 1;
+        of->looked_at = now;
+    }
+    uint64_t since = kept && kept->queued_at < of->looked_at ? kept->queued_at : of->looked_at;
+    return now > since ? now - since : 1;
+}
+
 int samvolip_map_look_at_objects(samvolip_map *map, samvolip_object_figures *figures)
 {
     objects *of = of_map(map);
     if (!begin_locked())
         return SAMVOLIP_E_NESTED;
-    uint64_t freed = of->freed, retired = 0, note = earliest(of, UINT64_MAX);
+    uint64_t freed = of->freed, retired = 0;
     for (place *one = of->places; one; one = one->after)
         retired += one->retired;
-    batch *kept = of->first;
-    while (kept && kept->stamp <= note)
-        kept = kept->after;
-    *figures = (samvolip_object_figures){retired, retired - freed, kept ? nanoseconds() - kept->queued_at : 0};
+    *figures = (samvolip_object_figures){retired, retired - freed, age_of_oldest_pin(of)};
     end_locked();
     return SAMVOLIP_OK;
 }

@@ -6,13 +6,14 @@
 #include <stdbool.h>
 
 typedef struct objects {
-    _Alignas(128) atomic_ullong clock; /* from 1 on; it ticks when a batch is queued */
+    _Alignas(128) atomic_ullong clock; /* from 1 on; it ticks when a batch is queued, and at a look */
     uint64_t id;                       /* no other map of the process has it, not even later */
     struct place *_Atomic places;      /* all that threads have, or had */
     unsigned owned;                    /* how many places a thread has now */
     unsigned fresh;                    /* batches that were queued since somebody collected */
     struct batch *first, **last;       /* the queue, in the order of stamps */
     atomic_ullong freed;               /* how many objects were */
+    uint64_t looked, looked_at;        /* the clock after the tick of a look, and its time in nanoseconds; 0: there was none */
     struct objects *after;             /* those of another map */
 } objects;
 

@@ -138,6 +138,23 @@ static void frees_what_no_pin_keeps(void)
     samvolip_map_collect(map);
     has(map, 2, 0);
 
+    /* also what wasn't shown, and the time counts from the first look on */
+    samvolip_map_pin(map);
+    EXPECT(figures_of(map).oldest_pin == 0); /* it keeps nothing */
+    put(map, 7);
+    put(map, 7);
+    uint64_t first = figures_of(map).oldest_pin;
+    usleep(2000);
+    EXPECT(first > 0 && figures_of(map).oldest_pin >= 2000000);
+    samvolip_map_unpin(map);
+    EXPECT(figures_of(map).waiting == 1 && figures_of(map).oldest_pin == 0);
+    samvolip_map_pin(map); /* another pin, of which nothing is known yet */
+    EXPECT(figures_of(map).oldest_pin > 0 && figures_of(map).oldest_pin < 2000000000);
+    samvolip_map_unpin(map);
+    erase(map, 7);
+    samvolip_map_collect(map);
+    has(map, 4, 0);
+
     /* a pin that begins after an object was shown doesn't keep it */
     put(map, 8);
     samvolip_map_pin(map);
@@ -146,8 +163,39 @@ static void frees_what_no_pin_keeps(void)
     samvolip_map_unpin(map);
     samvolip_map_pin(map);
     samvolip_map_collect(map);
-    has(map, 3, 0);
+    has(map, 5, 0);
     samvolip_map_unpin(map);
+    end(map);
+}
+
+/* What another thread has retired, and hasn't shown yet, is told, too. */
+static pthread_barrier_t shown;
+
+static void *retires_and_waits(void *map)
+{
+    put(map, 1);
+    put(map, 1);
+    pthread_barrier_wait(&shown);
+    pthread_barrier_wait(&shown);
+    return NULL;
+}
+
+static void tells_of_other_threads(void)
+{
+    samvolip_map *map = opened();
+    pthread_t thread;
+    pthread_barrier_init(&shown, NULL, 2);
+    EXPECT(pthread_create(&thread, NULL, retires_and_waits, map) == 0);
+    pthread_barrier_wait(&shown);
+    EXPECT(figures_of(map).waiting == 1 && figures_of(map).oldest_pin == 0);
+    samvolip_map_pin(map);
+    EXPECT(figures_of(map).oldest_pin > 0);
+    usleep(2000);
+    EXPECT(figures_of(map).oldest_pin >= 2000000 && figures_of(map).waiting == 1);
+    samvolip_map_unpin(map);
+    EXPECT(figures_of(map).oldest_pin == 0);
+    pthread_barrier_wait(&shown);
+    EXPECT(pthread_join(thread, NULL) == 0);
     end(map);
 }
 
@@ -636,6 +684,7 @@ int main(int count, char **words)
 {
     rounds = count > 1 ? strtoul(words[1], NULL, 10) : rounds;
     frees_what_no_pin_keeps();
+    tells_of_other_threads();
     frees_by_itself();
     keeps_addresses();
     functions_call_the_map();

@@ -1,6 +1,6 @@
 //! Why calls are refused.
 
-use crate::sys;
+use crate::{sys, WrongOption};
 use std::fmt;
 
 /// Why a call was refused. A refused call has changed nothing, but a call of many keys may have made some of its changes.
@@ -16,8 +16,8 @@ pub enum Error {
     /// There is no memory for the map's tables: the system gives none, or [`Options::memory`](crate::Options::memory) allows
     /// no more. A write is refused so when its key needs a slot, and all are taken.
     OutOfMemory,
-    /// An option is out of its range.
-    Options,
+    /// An option is out of its range: this one.
+    Options(WrongOption),
     /// A signal handler called in the middle of another call of its thread.
     Nested,
     /// The library is of another version than this crate.
@@ -33,7 +33,6 @@ impl Error {
             sys::E_VALUE_RANGE => Error::ValueRange,
             sys::E_SUM_RANGE => Error::SumRange,
             sys::E_OUT_OF_MEMORY => Error::OutOfMemory,
-            sys::E_OPTIONS => Error::Options,
             sys::E_NESTED => Error::Nested,
             sys::E_VERSION => Error::Version,
             code => unreachable!("code {code} of libsamvolip"),
@@ -44,11 +43,11 @@ impl Error {
 impl fmt::Display for Error {
     fn fmt(&self, f: &mut fmt::Formatter<'_>) -> fmt::Result {
         f.write_str(match self {
+            Error::Options(wrong) => return wrong.fmt(f),
             Error::KeyRange => "the key is past KEY_MAX, which is 2^64 - 3",
             Error::ValueRange => "the value is past VALUE_MAX, which is 2^60 - 1",
             Error::SumRange => "the sum is past VALUE_MAX, which is 2^60 - 1",
             Error::OutOfMemory => "there is no memory for the map's tables",
-            Error::Options => "an option is out of its range",
             Error::Nested => "a signal handler called in the middle of another call of its thread",
             Error::Version => "libsamvolip is of another version than the crate",
         })

@@ -73,5 +73,5 @@ pub use error::Error;
 pub use hash::key_of;
 pub use map::{Iter, Map};
 pub use objects::{ObjectMap, Objects, Operation, Pin};
-pub use options::{Figures, Keys, ObjectFigures, Options};
+pub use options::{Figures, Keys, ObjectFigures, Options, WrongOption};
 pub use sys::{KEY_MAX, VALUE_MAX};

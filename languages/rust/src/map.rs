@@ -238,7 +238,7 @@ impl Map {
     /// ```
     #[track_caller]
     pub fn iter(&self) -> Iter<'_> {
-        Iter { walk: sure(self.handle.walk()) }
+        Iter::over(&self.handle)
     }
 
     /// A walk over the keys, as [`iter`](Map::iter).
@@ -482,6 +482,13 @@ impl<'m> IntoIterator for &'m Map {
 /// A walk over a map: [`Map::iter`]. It may go to another thread.
 pub struct Iter<'m> {
     walk: sys::Walk<'m>,
+}
+
+impl Iter<'_> {
+    #[track_caller]
+    pub(crate) fn over(handle: &sys::Handle) -> Iter<'_> {
+        Iter { walk: sure(handle.walk()) }
+    }
 }
 
 impl Iterator for Iter<'_> {

@@ -1,7 +1,7 @@
 //! A map from whole numbers to objects.
 
 use crate::error::sure;
-use crate::map::nowhere;
+use crate::map::{nowhere, Iter};
 use crate::{sys, Error, Figures, ObjectFigures, Options};
 use std::fmt;
 use std::iter::FusedIterator;
@@ -9,7 +9,8 @@ use std::iter::FusedIterator;
 /// A map from whole numbers to objects, that any thread may call by `&`. What is overwritten and removed is dropped when nobody
 /// reads it any more.
 ///
-/// A thread gets objects by a [`Pin`], and has them as long as that lives, whoever removes them meanwhile.
+/// A thread gets objects by a [`Pin`], and has them as long as that lives, whoever removes them meanwhile. A clone is a handle to
+/// the same map, as that of an `Arc` is, and the pin of one is a pin of all. The map goes with its last handle.
 ///
 /// ```
 /// use samvolip::ObjectMap;
@@ -73,7 +74,19 @@ pub struct ObjectMap<V: Send + Sync> {
 /// A pin on an [`ObjectMap`], of its thread: [`ObjectMap::pin`].
 ///
 /// It stops nobody, but all that is overwritten and removed while it lives is kept; so it should be short. Who forgets one
-/// (`std::mem::forget`) has it stand until the map goes. Pins of a thread may lie in one another, and cost little then.
+/// (`std::mem::forget`) has it stand until the map goes. Pins of a thread may lie in one another, and cost little then; they are one
+/// pin, which ends with the last of them. So tasks of one thread, as those of `spawn_local`, hold none where they wait.
+///
+/// A loop over it shows all objects, as [`ObjectMap::iter`] does:
+///
+/// ```
+/// let names = samvolip::ObjectMap::from([(7, "Ada"), (8, "Grace")]);
+/// let mut letters = 0;
+/// for (_, name) in &names.pin() {
+///     letters += name.len();
+/// }
+/// assert_eq!(letters, 8);
+/// ```
 pub struct Pin<'m, V: Send + Sync> {
     pin: sys::Pin<'m, V>,
 }
@@ -301,6 +314,18 @@ impl<V: Send + Sync> ObjectMap<V> {
         Objects { walk: sure(self.with(pin).walk()) }
     }
 
+    /// A walk over the keys, as [`Map::keys`](crate::Map::keys). It needs no pin.
+    #[track_caller]
+    pub fn keys(&self) -> impl FusedIterator<Item = u64> + Send + '_ {
+        Iter::over(self.boxes.handle()).map(|(key, _)| key)
+    }
+
+    /// A walk over the objects, as [`iter`](ObjectMap::iter).
+    #[track_caller]
+    pub fn values<'p>(&self, pin: &'p Pin<'_, V>) -> impl FusedIterator<Item = &'p V> {
+        self.iter(pin).map(|(_, object)| object)
+    }
+
     /// Removes the keys of which `keep` says false, in the course of a walk, and returns how many. The very object is removed of
     /// which it said so: if another one took its place, `keep` is asked again. It may call the map.
     ///
@@ -338,6 +363,12 @@ impl<V: Send + Sync> ObjectMap<V> {
     }
 }
 
+impl<V: Send + Sync> Clone for ObjectMap<V> {
+    fn clone(&self) -> ObjectMap<V> {
+        ObjectMap { boxes: self.boxes.clone() }
+    }
+}
+
 impl<V: Send + Sync> Default for ObjectMap<V> {
     #[track_caller]
     fn default() -> ObjectMap<V> {
@@ -353,6 +384,12 @@ impl<V: Send + Sync + fmt::Debug> fmt::Debug for ObjectMap<V> {
 
 impl<V: Send + Sync> Extend<(u64, V)> for ObjectMap<V> {
     fn extend<I: IntoIterator<Item = (u64, V)>>(&mut self, entries: I) {
+        (&*self).extend(entries)
+    }
+}
+
+impl<V: Send + Sync> Extend<(u64, V)> for &ObjectMap<V> {
+    fn extend<I: IntoIterator<Item = (u64, V)>>(&mut self, entries: I) {
         for (key, object) in entries {
             self.insert(key, object, &self.pin());
         }
@@ -364,6 +401,22 @@ impl<V: Send + Sync> FromIterator<(u64, V)> for ObjectMap<V> {
         let mut map = ObjectMap::new();
         map.extend(entries);
         map
+    }
+}
+
+impl<V: Send + Sync, const N: usize> From<[(u64, V); N]> for ObjectMap<V> {
+    fn from(entries: [(u64, V); N]) -> ObjectMap<V> {
+        entries.into_iter().collect()
+    }
+}
+
+impl<'p, V: Send + Sync> IntoIterator for &'p Pin<'_, V> {
+    type Item = (u64, &'p V);
+    type IntoIter = Objects<'p, V>;
+
+    #[track_caller]
+    fn into_iter(self) -> Objects<'p, V> {
+        Objects { walk: sure(self.pin.walk()) }
     }
 }
 

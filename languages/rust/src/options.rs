@@ -1,6 +1,7 @@
 //! How a map is opened, and what it tells of itself.
 
 use crate::sys;
+use std::fmt;
 use std::time::Duration;
 
 /// What becomes of a key before it is looked for. All calls and walks speak of the keys that were given.
@@ -66,6 +67,52 @@ impl Options {
             Keys::AsTheyAre => sys::KEYS_AS_THEY_ARE,
         };
         Options(sys::Options { keys, ..self.0 })
+    }
+}
+
+/// Which option is out of its range. As a text it tells the range, too.
+///
+/// ```
+/// use samvolip::{Error, Map, Options, WrongOption};
+///
+/// let refused = Map::with_options(Options::new().threads(1000)).unwrap_err();
+/// assert_eq!(refused, Error::Options(WrongOption::Threads));
+/// assert_eq!(refused.to_string(), "threads: from 1 to 240");
+/// ```
+#[derive(Clone, Copy, Debug, PartialEq, Eq, Hash)]
+#[non_exhaustive]
+pub enum WrongOption {
+    /// [`Options::room`].
+    Room,
+    /// [`Options::memory`].
+    Memory,
+    /// [`Options::growth`].
+    Growth,
+    /// [`Options::threads`].
+    Threads,
+}
+
+impl WrongOption {
+    /// The option that a text of C's tells of, which begins with its name.
+    pub(crate) fn of_text(text: &[u8]) -> WrongOption {
+        match text.split(|&letter| letter == b':').next() {
+            Some(b"room") => WrongOption::Room,
+            Some(b"memory") => WrongOption::Memory,
+            Some(b"growth") => WrongOption::Growth,
+            Some(b"threads") => WrongOption::Threads,
+            _ => unreachable!("an option of libsamvolip"),
+        }
+    }
+}
+
+impl fmt::Display for WrongOption {
+    fn fmt(&self, f: &mut fmt::Formatter<'_>) -> fmt::Result {
+        f.write_str(match self {
+            WrongOption::Room => "room: for at most 178956970 keys",
+            WrongOption::Memory => "memory: at least that of two first tables, 65536 with the default room",
+            WrongOption::Growth => "growth: from 2 to 64 times",
+            WrongOption::Threads => "threads: from 1 to 240",
+        })
     }
 }
 

@@ -3,8 +3,8 @@
 
 #![allow(unsafe_code)]
 
-use crate::Error;
-use std::ffi::c_void;
+use crate::{Error, WrongOption};
+use std::ffi::{c_char, c_void, CStr};
 use std::marker::PhantomData;
 use std::mem::{forget, size_of};
 use std::process::abort;
@@ -103,6 +103,7 @@ extern "C" {
         options: *const Options,
         map: *mut *mut CMap,
     ) -> i32;
+    fn samvolip_map_wrong_option(options: *const Options) -> *const c_char;
     fn samvolip_map_free(map: *mut CMap);
     fn samvolip_map_get(map: *mut CMap, key: u64, value: *mut u64) -> i32;
     fn samvolip_map_contains(map: *mut CMap, key: u64) -> i32;
@@ -183,6 +184,11 @@ impl Handle {
         let mut map = ptr::null_mut();
         // SAFETY: the version and the sizes are those of this file.
         let code = unsafe { samvolip_map_open_with(VERSION, size_of::<Options>(), size_of::<Figures>(), options, &mut map) };
+        if code == E_OPTIONS {
+            // SAFETY: it reads the options, and returns a text that is there as long as the library, as one is wrong.
+            let text = unsafe { CStr::from_ptr(samvolip_map_wrong_option(options)) };
+            return Err(Error::Options(WrongOption::of_text(text.to_bytes())));
+        }
         made(code)?;
         let map = NonNull::new(map).expect("an open map has an address");
         Ok(Handle { map, _owner: Arc::new(Owner(map)) })
@@ -399,13 +405,25 @@ fn made(code: i32) -> Result<(), Error> {
     }
 }
 
-/// A map whose values are the addresses of boxes.
+/// A map whose values are the addresses of boxes. Clones are of one map; the last one drops what is in it.
 pub struct Boxes<V: Send + Sync> {
+    handle: Handle,
+    owner: Arc<BoxesOwner<V>>,
+}
+
+/// Drops the boxes that are in a map when its last handle goes.
+struct BoxesOwner<V: Send + Sync> {
     handle: Handle,
     /// It owns objects,
     owns: PhantomData<V>,
     /// and takes them by `&`.
     takes: PhantomData<fn(V)>,
+}
+
+impl<V: Send + Sync> Clone for Boxes<V> {
+    fn clone(&self) -> Boxes<V> {
+        Boxes { handle: self.handle.clone(), owner: self.owner.clone() }
+    }
 }
 
 /// A pin of its thread on such a map. What is got by it stays as long as it stands.
@@ -425,8 +443,9 @@ impl<V: Send + Sync> Drop for Pin<'_, V> {
 
 impl<'m, V: Send + Sync> Pin<'m, V> {
     /// Whether it is a pin on this map.
+    #[inline]
     pub fn is_on(&self, map: &Boxes<V>) -> bool {
-        ptr::eq(self.of, map)
+        ptr::eq(self.of, map) || Arc::ptr_eq(&self.of.owner, &map.owner)
     }
 
     /// The object with this address, which the map had at some moment since the pin stands.
@@ -481,7 +500,9 @@ impl<'m, V: Send + Sync> Pin<'m, V> {
 
 impl<V: Send + Sync> Boxes<V> {
     pub fn open(options: &Options) -> Result<Boxes<V>, Error> {
-        Ok(Boxes { handle: Handle::open(options)?, owns: PhantomData, takes: PhantomData })
+        let handle = Handle::open(options)?;
+        let owner = BoxesOwner { handle: handle.clone(), owns: PhantomData, takes: PhantomData };
+        Ok(Boxes { handle, owner: Arc::new(owner) })
     }
 
     /// For the calls that see no object.
@@ -533,7 +554,7 @@ impl<V: Send + Sync> Boxes<V> {
     }
 }
 
-impl<V: Send + Sync> Drop for Boxes<V> {
+impl<V: Send + Sync> Drop for BoxesOwner<V> {
     fn drop(&mut self) {
         extern "C" fn free<V>(_: *mut c_void, _: u64, value: u64) {
             free_box::<V>(value as *mut c_void)

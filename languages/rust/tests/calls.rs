@@ -1,6 +1,6 @@
 //! Each call and each refusal, by one thread.
 
-use samvolip::{key_of, Error, Keys, Map, Options, KEY_MAX, VALUE_MAX};
+use samvolip::{key_of, Error, Keys, Map, Options, WrongOption, KEY_MAX, VALUE_MAX};
 use std::collections::hash_map::RandomState;
 use std::collections::BTreeMap;
 use std::hash::{BuildHasherDefault, Hasher};
@@ -262,14 +262,19 @@ fn panics() {
 fn options() {
     let refused = |options: Options| Map::with_options(options).unwrap_err();
     for growth in [0, 1, 65] {
-        assert_eq!(refused(Options::new().growth(growth)), Error::Options);
+        assert_eq!(refused(Options::new().growth(growth)), Error::Options(WrongOption::Growth));
     }
     for threads in [0, 241, u32::MAX] {
-        assert_eq!(refused(Options::new().threads(threads)), Error::Options);
+        assert_eq!(refused(Options::new().threads(threads)), Error::Options(WrongOption::Threads));
     }
-    assert_eq!(refused(Options::new().room(usize::MAX)), Error::Options);
-    assert_eq!(refused(Options::new().memory(0)), Error::Options);
-    assert_eq!(refused(Options::new().memory(64 * 1024 - 1)), Error::Options);
+    assert_eq!(refused(Options::new().room(usize::MAX)), Error::Options(WrongOption::Room));
+    assert_eq!(refused(Options::new().memory(0)), Error::Options(WrongOption::Memory));
+    assert_eq!(refused(Options::new().memory(64 * 1024 - 1)), Error::Options(WrongOption::Memory));
+    let text = |options: Options| refused(options).to_string();
+    assert_eq!(text(Options::new().threads(1000)), "threads: from 1 to 240");
+    assert_eq!(text(Options::new().growth(65)), "growth: from 2 to 64 times");
+    assert_eq!(text(Options::new().room(178_956_971)), "room: for at most 178956970 keys");
+    assert!(text(Options::new().memory(9)).starts_with("memory: at least that of two first tables"));
     let slots = |options: Options| Map::with_options(options).unwrap().figures().slots;
     assert_eq!(
         (slots(Options::new()), slots(Options::new().room(0)), slots(Options::new().room(100_000))),

@@ -4,8 +4,10 @@
 use samvolip::{Error, ObjectMap, Operation, Options, Pin, KEY_MAX};
 use std::panic::{catch_unwind, AssertUnwindSafe};
 use std::sync::atomic::{AtomicBool, AtomicU64, Ordering};
+use std::sync::mpsc::channel;
 use std::sync::{Arc, Weak};
 use std::thread;
+use std::time::Duration;
 
 /// How many objects were made and dropped.
 #[derive(Default)]
@@ -159,6 +161,86 @@ fn whole_maps() {
         (format!("{texts:?}"), texts.get_cloned(7), texts.get_cloned(8)),
         ("{7: \"Ada\"}".to_string(), Some("Ada".to_string()), None)
     );
+}
+
+/// What a `Map` has, too: handles to one map, walks over keys and objects, and a map of entries.
+#[test]
+fn as_a_map() {
+    let counts = Counts::default();
+    let map = ObjectMap::from([(1, counts.object(10)), (2, counts.object(20))]);
+    (&map).extend([(3, counts.object(30))]);
+    let other = map.clone();
+    let pin = map.pin();
+    other.insert(4, counts.object(40), &pin); // the pin of one is a pin of all
+    let mut keys: Vec<_> = other.keys().collect();
+    let mut numbers: Vec<_> = map.values(&pin).map(|object| object.number).collect();
+    (keys.sort(), numbers.sort());
+    assert_eq!((keys, numbers), (vec![1, 2, 3, 4], vec![10, 20, 30, 40]));
+    let mut sum = 0;
+    for (key, object) in &pin {
+        assert_eq!(object.number, 10 * key);
+        sum += key;
+        map.remove(key, &pin);
+    }
+    assert_eq!((sum, other.len()), (10, 0));
+    map.insert(5, counts.object(50), &pin);
+    drop(pin);
+    let pin = other.pin();
+    drop(map); // the other handle has it
+    assert_eq!(number(other.get(5, &pin)), Some(50));
+    let shown = thread::scope(|scope| {
+        let keys = other.keys();
+        scope.spawn(|| keys.count()).join().unwrap() // a walk over keys may go to another thread
+    });
+    assert_eq!(shown, 1);
+    drop(pin);
+    drop(other);
+    counts.all_dropped();
+}
+
+/// Also of objects that wait in the batch of a thread, this one or another, before they are shown to others.
+#[test]
+fn the_oldest_pin_is_told() {
+    let map = ObjectMap::from([(1, 1), (2, 2)]);
+    let oldest = || map.object_figures().oldest_pin;
+    let pin = map.pin();
+    assert_eq!(oldest(), None); // it keeps nothing
+    map.remove(1, &pin);
+    assert!(oldest().is_some());
+    thread::sleep(Duration::from_millis(2));
+    assert!(oldest().unwrap() >= Duration::from_millis(2));
+    drop(pin);
+    assert_eq!((oldest(), map.object_figures().waiting), (None, 1));
+    map.collect();
+    // pins of a thread that overlap are one, which ends with the last of them
+    let (first, second) = (map.pin(), map.pin());
+    map.insert(3, 3, &first);
+    map.remove(3, &first);
+    drop(first);
+    let third = map.pin();
+    drop(second);
+    map.collect();
+    assert_eq!(map.object_figures().waiting, 1);
+    drop(third);
+    map.collect();
+    assert_eq!(map.object_figures().waiting, 0);
+    let (removed, is_removed) = channel();
+    let (seen, is_seen) = channel::<()>();
+    thread::scope(|scope| {
+        let map = &map;
+        scope.spawn(move || {
+            map.remove(2, &map.pin());
+            removed.send(()).unwrap();
+            let _ = is_seen.recv();
+        });
+        is_removed.recv().unwrap();
+        assert_eq!((oldest(), map.object_figures().waiting), (None, 1));
+        let pin = map.pin();
+        assert!(oldest().is_some());
+        drop(pin);
+        assert_eq!(oldest(), None);
+        seen.send(()).unwrap();
+    });
 }
 
 #[test]

@@ -561,7 +561,7 @@ mod signals {
         unsafe { signal(SIGUSR1, handle) };
         let call = |is_over: &AtomicBool| {
             map.add(3, 1); // a first call takes memory, which a handler may not
-                                 // SAFETY: any thread may ask.
+                           // SAFETY: any thread may ask.
             caller.send(unsafe { pthread_self() }).unwrap();
             while !is_over.load(Ordering::Relaxed) {
                 map.add(3, 1);
