@@ -154,6 +154,7 @@ void computes()
     using samvolip::computed;
     const auto leaves = [](const counted *) { return samvolip::unchanged; };
     const auto erases = [](const counted *) { return nullptr; };
+    map.collect().value();
     const auto left = map.compute(7, leaves).value();
     EXPECT(left && left->number == 1000 && !map.compute(8, leaves).value() && !map.compute(8, erases).value());
     EXPECT(!map.compute(7, erases).value() && !map.contains(7).value());
