@@ -174,7 +174,8 @@ fn as_a_map() {
     other.insert(4, counts.object(40), &pin); // the pin of one is a pin of all
     let mut keys: Vec<_> = other.keys().collect();
     let mut numbers: Vec<_> = map.values(&pin).map(|object| object.number).collect();
-    (keys.sort(), numbers.sort());
+    keys.sort();
+    numbers.sort();
     assert_eq!((keys, numbers), (vec![1, 2, 3, 4], vec![10, 20, 30, 40]));
     let mut sum = 0;
     for (key, object) in &pin {
