@@ -43,13 +43,13 @@ setup(
     ext_modules=[
         Extension(
             "samvolip._map",
-            ["src/_map.c"],
+            ["src/_map.c", "src/entries.c", "src/shared.c"],
             include_dirs=[headers()],
             extra_objects=[LIBRARY],
             extra_compile_args=["-std=c11", "-O2", "-g0", "-fvisibility=hidden"],
             # its names meet none of another copy of the library, and it stays where it is: threads end by it
             extra_link_args=["-Wl,--exclude-libs,ALL", "-Wl,-z,nodelete", "-lpthread"],
-            depends=[LIBRARY],
+            depends=[LIBRARY, "src/entries.h", "src/shared.h"],
             py_limited_api=HAS_STABLE_ABI,
         )
     ],

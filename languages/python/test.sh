@@ -12,14 +12,14 @@ wheel() {
 }
 # tests FOLDER PYTHON [FLAG]: the tests over a wheel that is unpacked
 tests() {
-    for test in samvolip mapping; do
+    for test in samvolip mapping turns; do
         PYTHONPATH="$made/$1" quietly "${@:2}" "$here/tests/test_$test.py" || fail "the test $test fails with $2"
     done
 }
 
 if python="$("$here/build.sh" --which 2> "$made/errors")"; then
     headers="$("$python" -c 'import sysconfig; print(sysconfig.get_path("include"))')"
-    "$cc" -std=c11 "${flags[@]}" -Wconversion -Wsign-conversion -isystem "$headers" -fsyntax-only "$here/src/_map.c"
+    "$cc" -std=c11 "${flags[@]}" -Wconversion -Wsign-conversion -isystem "$headers" -fsyntax-only "$here"/src/*.c
     wheel package "$python" '*.whl'
     # the tests run with python3, or with the Python that made it
     ! python3 -c 'import sys; sys.exit(sys.version_info < (3, 10))' 2> "$made/errors" || python=python3
@@ -59,7 +59,7 @@ if command -v mypy > "$made/line"; then
         /^[^ ]/ { name = "" }
         name != "" { sub("^    ", ""); print > (to name) }' "$top/docs/python.md"
     typed --strict samvolip
-    typed --check-untyped-defs --warn-unused-ignores tests/test_samvolip.py tests/test_mapping.py bench/cost.py "$made"/programs/*.py
+    typed --check-untyped-defs --warn-unused-ignores tests/test_{samvolip,mapping,turns}.py bench/cost.py "$made"/programs/*.py
     say "mypy takes the package strictly, and its tests and programs"
 else
     say "no mypy here: the types weren't looked at"

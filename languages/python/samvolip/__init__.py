@@ -12,22 +12,21 @@ The calls of a key are those of src/_map.c. Here is what a MutableMapping has be
 from __future__ import annotations
 
 import copy
-import heapq
 import itertools
-import operator
 import os
 import weakref
 from array import array
 from collections.abc import Callable, ItemsView, Iterable, Iterator, KeysView, Mapping, MutableMapping, ValuesView
 from typing import Any, NamedTuple, Protocol, SupportsIndex, TypeVar
 
-from ._map import KEY_MAX, VALUE_MAX, VERSION, Base, Walk, check_signs
+from ._map import KEY_MAX, VALUE_MAX, VERSION, Base, Walk, are_equal, check_signs, column, dict_of, most_common, read_words
 
 __all__ = ["KEY_MAX", "VALUE_MAX", "Figures", "Map"]
 __version__ = f"{VERSION >> 16}.{VERSION >> 8 & 255}.{VERSION & 255}"
 
 _KINDS = {"secret": 0, "mixed": 1, "as they are": 2}  # what becomes of keys, as SAMVOLIP_KEYS_SECRET and so on
-_KEYS, _VALUES, _ITEMS = range(3)  # what a Walk shows
+_KEYS, _VALUES, _ITEMS = range(3)  # what a Walk shows; the first two also say what numbers are
+_SOME = 1 << 13  # what is copied or shown by pieces of so many, so that other threads go on between them, and signals are answered
 
 _Self = TypeVar("_Self", bound="Map")
 
@@ -53,34 +52,68 @@ class Figures(NamedTuple):
     own_threads: int  # threads that have a way of their own into the map
 
 
-def _words(numbers: Any) -> bytes:
-    """Whole numbers as words of 64 bits, one after another: a copy, so that nobody changes them meanwhile."""
+class _One(int):
+    """A 1 that is told from the caller's: it stands for the values of a mapping where a mapping is given."""
+
+
+_ONE_EACH = _One(1)
+
+
+def _pieces(of: Any, size: int = _SOME) -> Iterator[Any]:
+    """What is in a memoryview or the like, by pieces."""
+    return (of[at : at + size] for at in range(0, len(of), size))
+
+
+def _words(numbers: Any, kind: int) -> bytearray:
+    """Whole numbers as words of 64 bits, one after another: a copy, so that nobody changes them meanwhile. kind: _KEYS or _VALUES."""
     try:
         view = memoryview(numbers)
     except TypeError:
-        return array("Q", numbers).tobytes()
+        return read_words(numbers, kind)
     with view:
         if view.ndim != 1:
             raise TypeError(f"a buffer has one dimension, not {view.ndim}")
-        kind = view.format.lstrip("@=<")
-        if view.itemsize != 8 or kind not in ("Q", "L", "N", "q", "l", "n"):
-            return array("Q", view.tolist()).tobytes()
-        return view.tobytes() if kind.isupper() else check_signs(view.tobytes())
+        form = view.format.lstrip("@=<")
+        if view.itemsize != 8 or form not in ("Q", "L", "N", "q", "l", "n"):
+            return read_words(itertools.chain.from_iterable(piece.tolist() for piece in _pieces(view)), kind)
+        made = bytearray()
+        for piece in _pieces(view):
+            made += piece.tobytes()
+    if form.islower():
+        check_signs(made, kind)
+    return made
 
 
-def _number_or_words(numbers: SupportsIndex | Iterable[SupportsIndex]) -> SupportsIndex | bytes:
-    """One number for all keys, or as many as there are keys."""
-    return _words(numbers) if isinstance(numbers, Iterable) else numbers
+def _value_or_words(values: SupportsIndex | Iterable[SupportsIndex]) -> SupportsIndex | bytearray:
+    """One value for all keys, or as many as there are keys."""
+    return _words(values, _VALUES) if isinstance(values, Iterable) else values
+
+
+def _array(words: bytearray) -> array[int]:
+    made = array("Q")
+    for piece in _pieces(words, 8 * _SOME):
+        made.frombytes(piece)
+    return made
+
+
+def _columns(pairs: Iterable[Any]) -> tuple[list[Any], list[Any]]:
+    """The keys and the values of pairs."""
+    keys, values = [], []
+    for place, pair in enumerate(pairs):
+        try:
+            key, value = pair
+        except (TypeError, ValueError) as error:
+            raise type(error)(f"pairs[{place}] isn't a key and a value: {error}") from None
+        keys.append(key)
+        values.append(value)
+    return keys, values
 
 
 class _Keys(KeysView[int]):
     _mapping: Map
 
     def __contains__(self, key: object) -> bool:
-        try:
-            return key in self._mapping
-        except (TypeError, OverflowError):  # as of a set: what can't be a key isn't there
-            return False
+        return key in self._mapping
 
     def __iter__(self) -> Iterator[int]:
         return Walk(self._mapping, _KEYS)
@@ -90,7 +123,10 @@ class _Items(ItemsView[int, int]):
     _mapping: Map
 
     def __contains__(self, item: object) -> bool:
-        return isinstance(item, tuple) and len(item) == 2 and item[0] in self._mapping.keys() and self._mapping.get(item[0]) == item[1]
+        if not isinstance(item, tuple) or len(item) != 2 or item[0] not in self._mapping:
+            return False
+        value = self._mapping.get(item[0])
+        return value is not None and value == item[1]
 
     def __iter__(self) -> Iterator[tuple[int, int]]:
         return Walk(self._mapping, _ITEMS)
@@ -99,8 +135,8 @@ class _Items(ItemsView[int, int]):
 class _Values(ValuesView[int]):
     _mapping: Map
 
-    def __contains__(self, number: object) -> bool:
-        return any(number == one for one in self)
+    def __contains__(self, value: object) -> bool:
+        return any(value == one for one in self)
 
     def __iter__(self) -> Iterator[int]:
         return Walk(self._mapping, _VALUES)
@@ -123,10 +159,10 @@ if hasattr(os, "register_at_fork"):
 
 
 class Map(Base, MutableMapping[int, int]):  # type: ignore[misc]
-    """A map that any thread may call. Keys go from 0 to KEY_MAX, numbers to VALUE_MAX.
+    """A map that any thread may call. Keys go from 0 to KEY_MAX, values to VALUE_MAX.
 
     Each call is one step for all threads, but for those that docs/python.md names. What isn't a whole number is refused by
-    TypeError, a number out of range by OverflowError, and a write that gets no memory by MemoryError; it has changed nothing then.
+    TypeError, a key or a value out of range by OverflowError, and a write that gets no memory by MemoryError; it has changed nothing then.
 
     Loops may lie in one another, and the map may change meanwhile: no key comes twice, and each that stays in the map comes.
     """
@@ -166,14 +202,14 @@ class Map(Base, MutableMapping[int, int]):  # type: ignore[misc]
         _maps[id(self)] = self
 
     @classmethod
-    def fromkeys(cls: type[_Self], keys: Iterable[SupportsIndex], number: SupportsIndex = 0, /) -> _Self:
-        """A map with this number at each of the keys."""
+    def fromkeys(cls: type[_Self], keys: Iterable[SupportsIndex], value: SupportsIndex = 0, /) -> _Self:
+        """A map with this value at each of the keys."""
         made = cls()
-        made.put_many(keys, number)
+        made.put_many(keys, value)
         return made
 
     def compute(self, key: SupportsIndex, function: Callable[[int | None], int | None], /) -> int | None:
-        """Puts at a key what the function makes of the number there. None is no number, before and after. What it made.
+        """Puts at a key what the function makes of the value there. None is no value, before and after. What it made.
 
         If others write the key meanwhile, the function is called again, with what is there then. It may call the map.
         """
@@ -186,7 +222,7 @@ class Map(Base, MutableMapping[int, int]):  # type: ignore[misc]
             before = found
 
     def popitem(self) -> tuple[int, int]:
-        """Takes some key out, with its number. KeyError if there is none."""
+        """Takes some key out, with its value. KeyError if there is none."""
         while True:
             try:
                 key = self._shown.pop()
@@ -196,9 +232,9 @@ class Map(Base, MutableMapping[int, int]):  # type: ignore[misc]
                     raise KeyError("popitem(): the map is empty") from None
                 self._shown = shown
                 continue
-            number = self.remove(key)
-            if number is not None:
-                return key, number
+            value = self.remove(key)
+            if value is not None:
+                return key, value
 
     # walks
 
@@ -210,55 +246,67 @@ class Map(Base, MutableMapping[int, int]):  # type: ignore[misc]
         return _Keys(self)
 
     def values(self) -> ValuesView[int]:
-        """The numbers, of which a loop is a walk."""
+        """The values, of which a loop is a walk."""
         return _Values(self)
 
     def items(self) -> ItemsView[int, int]:
-        """The keys with their numbers: a set, of which a loop is a walk."""
+        """The keys with their values: a set, of which a loop is a walk."""
         return _Items(self)
 
     # many keys. While a batch runs, other threads of the interpreter go on
 
-    def put_many(self, keys: Iterable[SupportsIndex], numbers: SupportsIndex | Iterable[SupportsIndex], /) -> None:
-        """Puts a number at each key: one for all, or as many as there are keys. Each put is a step of its own."""
-        self._put_words(_words(keys), _number_or_words(numbers))
+    def put_many(self, keys: Iterable[SupportsIndex], values: SupportsIndex | Iterable[SupportsIndex], /) -> None:
+        """Puts a value at each key: one for all, or as many as there are keys. Each put is a step of its own."""
+        self._put_words(_words(keys, _KEYS), _value_or_words(values))
 
-    def add_many(self, keys: Iterable[SupportsIndex], numbers: SupportsIndex | Iterable[SupportsIndex] = 1, /) -> None:
-        """Adds a number at each key: one for all, or as many as there are keys. Each add is a step of its own."""
-        self._add_words(_words(keys), _number_or_words(numbers))
+    def add_many(
+        self,
+        keys: Mapping[SupportsIndex, SupportsIndex] | Iterable[SupportsIndex],
+        values: SupportsIndex | Iterable[SupportsIndex] = _ONE_EACH,
+        /,
+    ) -> None:
+        """Adds a value at each key: one for all, or as many as there are keys. Each add is a step of its own.
+
+        Of a mapping alone, as a Counter, the values are added, each at its key.
+        """
+        given: Any = keys
+        if values is _ONE_EACH and isinstance(given, Mapping):
+            given, values = given.snapshot_arrays() if isinstance(given, Map) else _columns(given.items())
+        self._add_words(_words(given, _KEYS), _value_or_words(values))
 
     def get_many(self, keys: Iterable[SupportsIndex], default: SupportsIndex = 0, /) -> array[int]:
-        """The number at each key, or the default, which is a word of 64 bits."""
-        return array("Q", self._get_words(_words(keys), default))
+        """The value at each key, or the default, which is a word of 64 bits."""
+        return _array(self._get_words(_words(keys, _KEYS), default))
 
     def update(self, pairs: _HasKeys | Iterable[tuple[SupportsIndex, SupportsIndex]] = (), /) -> None:  # type: ignore[override]
-        """Puts the numbers of another mapping, or of pairs. All are read first; then each put is a step of its own."""
-        if isinstance(pairs, Map):
-            self.put_many(*pairs.snapshot_arrays())
-            return
+        """Puts the values of another mapping, or of pairs. All are read first; then each put is a step of its own."""
         given: Any = pairs
+        if isinstance(given, Map):
+            self.put_many(*given.snapshot_arrays())
+            return
         if isinstance(given, Mapping):
             given = given.items()
         elif hasattr(given, "keys"):
             given = [(key, given[key]) for key in given.keys()]
-        read = [(key, number) for key, number in given]
-        self.put_many([key for key, _ in read], [number for _, number in read])
+        self.put_many(*_columns(given))
 
-    # the whole map
+    # the whole map. Meanwhile other threads of the interpreter go on, too, and signals are answered
 
     def snapshot(self) -> dict[int, int]:
         """All entries of one moment."""
-        return dict(zip(*self.snapshot_arrays()))
+        return dict_of(self._snapshot_words())
 
     def snapshot_arrays(self) -> tuple[array[int], array[int]]:
-        """The keys of one moment, and their numbers."""
-        words = array("Q", self._snapshot_words())
-        return words[::2], words[1::2]
+        """The keys of one moment, and their values."""
+        entries = self._snapshot_words()
+        return _array(column(entries, _KEYS)), _array(column(entries, _VALUES))
 
     def __eq__(self, other: object) -> bool:
+        if isinstance(other, Map):
+            return are_equal(self._snapshot_words(), other._snapshot_words())
         if not isinstance(other, Mapping):
             return NotImplemented
-        return self.snapshot() == (other.snapshot() if isinstance(other, Map) else dict(other.items()))
+        return are_equal(self._snapshot_words(), other if isinstance(other, dict) else dict(other.items()))
 
     def __or__(self: _Self, other: Mapping[int, int]) -> _Self:
         if not isinstance(other, Mapping):
@@ -280,7 +328,9 @@ class Map(Base, MutableMapping[int, int]):  # type: ignore[misc]
         return self
 
     def __repr__(self) -> str:
-        return f"{type(self).__name__}({self.snapshot()})"
+        entries = self._snapshot_words()
+        shown = (repr(dict_of(piece))[1:-1] for piece in _pieces(entries, 16 * _SOME))
+        return f"{type(self).__name__}({{{', '.join(shown)}}})"
 
     def copy(self: _Self) -> _Self:
         """A map of its own, with the entries of one moment and the same options."""
@@ -289,19 +339,18 @@ class Map(Base, MutableMapping[int, int]):  # type: ignore[misc]
     def __reduce__(self) -> tuple[Any, ...]:
         return _made, (type(self), self._options, *self.snapshot_arrays()), getattr(self, "__dict__", None)
 
-    def most_common(self, n: int | None = None, /) -> list[tuple[int, int]]:
-        """The n keys with the greatest numbers, or all, of one moment: the greatest first."""
-        items, number = self.snapshot().items(), operator.itemgetter(1)
-        return sorted(items, key=number, reverse=True) if n is None else heapq.nlargest(n, items, key=number)
+    def most_common(self, n: SupportsIndex | None = None, /) -> list[tuple[int, int]]:
+        """The n keys with the greatest values, or all, of one moment: the greatest first."""
+        return most_common(self._snapshot_words(), n)
 
     def figures(self) -> Figures:
         """What happened so far, and how large the map is."""
         return Figures(*self._look())
 
 
-def _made(cls: type[_Self], options: tuple[SupportsIndex, ...], keys: Iterable[int] = (), numbers: Iterable[int] = ()) -> _Self:
+def _made(cls: type[_Self], options: tuple[SupportsIndex, ...], keys: Iterable[int] = (), values: Iterable[int] = ()) -> _Self:
     """A map by its options, without a call of the class's own __init__."""
     made = cls.__new__(cls)
     made._open(options)
-    made.put_many(keys, numbers)
+    made.put_many(keys, values)
     return made

@@ -1,50 +1,20 @@
-/* _map.c - the map of samvolip_map.h as a type of Python, over the stable ABI of CPython 3.10; a CPython without a global lock has none,
-   so there it is over that version's own. samvolip/__init__.py makes a MutableMapping of it.
+/* _map.c - the map of samvolip_map.h as a type of Python, and the module. samvolip/__init__.py makes a MutableMapping of it.
 
    A call of one key keeps the interpreter's lock, since to let go of it and take it again costs more than the call, unless it has to
-   wait or renews the map. What may take long lets go of it from the beginning: batches, and calls of the whole map. No call of the map
-   waits for a thread that needs the interpreter's lock.
+   wait or renews the map. What may take long lets go of it: batches and calls of the whole map, from the beginning or after some
+   milliseconds. No call of the map waits for a thread that needs the interpreter's lock.
 
-   No key and no number goes to the map that it would refuse for its range: key_of and value_of raise first. */
-#include <pyconfig.h>
-#ifndef Py_GIL_DISABLED
-#define Py_LIMITED_API 0x030a0000
-#endif
-#define PY_SSIZE_T_CLEAN
-#include <Python.h>
-#include "samvolip_map.h"
-#include <stdbool.h>
-#include <stdlib.h>
+   No key and no value goes to the map that it would refuse for its range: key_of and value_of raise first. */
+#include "entries.h"
+#include <string.h>
 
-/* A batch makes so many calls between two looks at signals; one of a few keys keeps the interpreter's lock. */
-enum { PART = 1 << 17, FEW = 64 };
+/* A batch makes so many calls between two looks at signals. */
+enum { PART = 1 << 17 };
 
 typedef struct Map {
     PyObject_HEAD
     samvolip_map *map; /* NULL until __init__ opens it */
 } Map;
-
-/* ---- the interpreter's lock ---------------------------------------------------------------- */
-
-/* Whether this thread has let go of it, in a call of a map. */
-static _Thread_local bool has_let_go;
-
-static void *let_go(void)
-{
-    if (has_let_go)
-        return NULL;
-    has_let_go = true;
-    return PyEval_SaveThread();
-}
-
-/* NULL: it was let go of before, and whoever did so takes it back. */
-static void take_back(void *state)
-{
-    if (!state)
-        return;
-    PyEval_RestoreThread(state);
-    has_let_go = false;
-}
 
 /* Where there is no such lock: between these two lines this thread alone is at work with an object. */
 #ifdef Py_GIL_DISABLED
@@ -66,82 +36,33 @@ static inline samvolip_map *map_of(PyObject *self)
     return map;
 }
 
-static bool refuse_range(PyObject *given, const char *range)
-{
-    PyObject *shown = PyObject_Str(given);
-    PyErr_Clear(); /* some numbers are too long to be shown */
-    if (shown)
-        PyErr_Format(PyExc_OverflowError, "%s, not %S", range, shown);
-    else
-        PyErr_SetString(PyExc_OverflowError, range);
-    Py_XDECREF(shown);
-    return false;
-}
+static bool key_of(PyObject *given, uint64_t *key) { return number_of(given, &a_key, key); }
+static bool value_of(PyObject *given, uint64_t *value) { return number_of(given, &a_value, value); }
 
-static void refuse_type(PyObject *given, const char *what)
+/* Whether there may be such a key: none that isn't a whole number, or out of range. As a dict says, -1 with an exception if it is
+   unhashable. */
+static int may_be_key(PyObject *given, uint64_t *key)
 {
-    PyObject *name = PyObject_GetAttrString((PyObject *)Py_TYPE(given), "__name__");
-    if (name)
-        PyErr_Format(PyExc_TypeError, "%s is a whole number, not %S", what, name);
-    Py_XDECREF(name);
-}
-
-/* Reads a whole number up to `most`; false with an exception. */
-static inline bool read_number(PyObject *given, uint64_t most, const char *what, const char *range, uint64_t *number)
-{
-    if (!PyLong_Check(given)) {
-        PyObject *index = PyIndex_Check(given) ? PyNumber_Index(given) : NULL;
-        if (!index && !PyErr_Occurred())
-            refuse_type(given, what);
-        bool is_read = index && read_number(index, most, what, range, number);
-        Py_XDECREF(index);
-        return is_read;
+    if (!PyLong_Check(given) && PyObject_Hash(given) == -1)
+        return -1;
+    switch (read_number(given, a_key.most, key)) {
+    case READ: return 1;
+    case RAISED:
+        if (!PyErr_ExceptionMatches(PyExc_TypeError))
+            return -1;
+        PyErr_Clear();
+        return 0;
+    default: return 0;
     }
-    *number = PyLong_AsUnsignedLongLong(given);
-    if (*number <= most && (*number != UINT64_MAX || !PyErr_Occurred()))
-        return true;
-    PyErr_Clear(); /* where no word of 64 bits holds it */
-    return refuse_range(given, range);
-}
-
-static bool key_of(PyObject *given, uint64_t *key)
-{
-    return read_number(given, SAMVOLIP_KEY_MAX, "a key", "a key is from 0 to 2**64 - 3", key);
-}
-
-static bool value_of(PyObject *given, uint64_t *value)
-{
-    return read_number(given, SAMVOLIP_VALUE_MAX, "a value", "a value is from 0 to 2**60 - 1", value);
-}
-
-/* Whether a call has so many arguments; false with an exception. */
-static inline bool takes(const char *name, Py_ssize_t count, Py_ssize_t least, Py_ssize_t most)
-{
-    if (count >= least && count <= most)
-        return true;
-    if (least < most)
-        PyErr_Format(PyExc_TypeError, "%s() takes %zd or %zd arguments, not %zd", name, least, most, count);
-    else
-        PyErr_Format(PyExc_TypeError, "%s() takes %zd arguments, not %zd", name, most, count);
-    return false;
 }
 
 /* ---- what is told -------------------------------------------------------------------------- */
 
-static PyObject *refuse(int code)
-{
-    switch (code) {
-    case SAMVOLIP_E_OUT_OF_MEMORY: return PyErr_NoMemory();
-    case SAMVOLIP_E_SUM_RANGE: PyErr_SetString(PyExc_OverflowError, "the sum is past 2**60 - 1"); return NULL;
-    default: PyErr_SetString(PyExc_RuntimeError, samvolip_map_strerror(code)); return NULL;
-    }
-}
-
-/* The number that was at a key, or None. */
-static inline PyObject *found(int code, uint64_t number)
+/* The value that was at a key, or None. */
+static inline PyObject *found(int code, uint64_t value)
 {
     if (code == SAMVOLIP_PRESENT)
-        return PyLong_FromUnsignedLongLong(number);
+        return PyLong_FromUnsignedLongLong(value);
     if (code < 0)
         return refuse(code);
     Py_RETURN_NONE;
@@ -163,63 +84,64 @@ static PyObject *no_key(PyObject *key)
 static PyObject *map_get(PyObject *self, PyObject *const *args, Py_ssize_t count)
 {
     samvolip_map *map = map_of(self);
-    uint64_t key, number;
+    uint64_t key, value;
     if (!map || !takes("get", count, 1, 2) || !key_of(args[0], &key))
         return NULL;
-    int code = samvolip_map_get(map, key, &number);
+    int code = samvolip_map_get(map, key, &value);
     if (code == SAMVOLIP_ABSENT && count == 2)
         return Py_NewRef(args[1]);
-    return found(code, number);
+    return found(code, value);
 }
 
 static PyObject *map_subscript(PyObject *self, PyObject *given)
 {
     samvolip_map *map = map_of(self);
-    uint64_t key, number;
+    uint64_t key, value;
     if (!map || !key_of(given, &key))
         return NULL;
-    int code = samvolip_map_get(map, key, &number);
-    return code == SAMVOLIP_ABSENT ? no_key(given) : found(code, number);
+    int code = samvolip_map_get(map, key, &value);
+    return code == SAMVOLIP_ABSENT ? no_key(given) : found(code, value);
 }
 
 static int map_contains(PyObject *self, PyObject *given)
 {
     samvolip_map *map = map_of(self);
     uint64_t key;
-    if (!map || !key_of(given, &key))
-        return -1;
+    int may_be = map ? may_be_key(given, &key) : -1;
+    if (may_be <= 0)
+        return may_be;
     int code = samvolip_map_contains(map, key);
     return code < 0 ? (refuse(code), -1) : code;
 }
 
-/* m[k] = n, or del m[k] where there is no n. */
-static int map_ass_subscript(PyObject *self, PyObject *given, PyObject *value)
+/* m[k] = v, or del m[k] where nothing is given to put. */
+static int map_ass_subscript(PyObject *self, PyObject *given, PyObject *put)
 {
     samvolip_map *map = map_of(self);
-    uint64_t key, number = 0;
-    if (!map || !key_of(given, &key) || (value && !value_of(value, &number)))
+    uint64_t key, value = 0;
+    if (!map || !key_of(given, &key) || (put && !value_of(put, &value)))
         return -1;
-    int code = value ? samvolip_map_put(map, key, number, NULL) : samvolip_map_remove(map, key, NULL);
+    int code = put ? samvolip_map_put(map, key, value, NULL) : samvolip_map_remove(map, key, NULL);
     if (code < 0)
         refuse(code);
-    else if (!value && code == SAMVOLIP_ABSENT)
+    else if (!put && code == SAMVOLIP_ABSENT)
         no_key(given);
     else
         return 0;
     return -1;
 }
 
-/* The writes of a key and a number that find what was there before. Without a number, where `least` is 1, it is `usual`. */
-typedef int change(samvolip_map *map, uint64_t key, uint64_t number, uint64_t *before);
+/* The writes of a key and a value that find what was there before. Without a value, where `least` is 1, it is `usual`. */
+typedef int change(samvolip_map *map, uint64_t key, uint64_t value, uint64_t *before);
 
 static inline int make(change *call, const char *name, Py_ssize_t least, uint64_t usual, PyObject *self, PyObject *const *args,
                        Py_ssize_t count, uint64_t *before)
 {
     samvolip_map *map = map_of(self);
-    uint64_t key, number = usual;
-    if (!map || !takes(name, count, least, 2) || !key_of(args[0], &key) || (count == 2 && !value_of(args[1], &number)))
+    uint64_t key, value = usual;
+    if (!map || !takes(name, count, least, 2) || !key_of(args[0], &key) || (count == 2 && !value_of(args[1], &value)))
         return SAMVOLIP_E_OPTIONS;
-    int code = call(map, key, number, before);
+    int code = call(map, key, value, before);
     if (code < 0)
         refuse(code);
     return code;
@@ -249,19 +171,19 @@ static PyObject *map_setdefault(PyObject *self, PyObject *const *args, Py_ssize_
 static PyObject *map_replace_if(PyObject *self, PyObject *const *args, Py_ssize_t count)
 {
     samvolip_map *map = map_of(self);
-    uint64_t key, old, number;
-    if (!map || !takes("replace_if", count, 3, 3) || !key_of(args[0], &key) || !value_of(args[1], &old) || !value_of(args[2], &number))
+    uint64_t key, old, value;
+    if (!map || !takes("replace_if", count, 3, 3) || !key_of(args[0], &key) || !value_of(args[1], &old) || !value_of(args[2], &value))
         return NULL;
-    return whether(samvolip_map_replace_if(map, key, old, number));
+    return whether(samvolip_map_replace_if(map, key, old, value));
 }
 
 static PyObject *map_remove_if(PyObject *self, PyObject *const *args, Py_ssize_t count)
 {
     samvolip_map *map = map_of(self);
-    uint64_t key, number;
-    if (!map || !takes("remove_if", count, 2, 2) || !key_of(args[0], &key) || !value_of(args[1], &number))
+    uint64_t key, value;
+    if (!map || !takes("remove_if", count, 2, 2) || !key_of(args[0], &key) || !value_of(args[1], &value))
         return NULL;
-    return whether(samvolip_map_remove_if(map, key, number));
+    return whether(samvolip_map_remove_if(map, key, value));
 }
 
 static PyObject *map_remove(PyObject *self, PyObject *given)
@@ -308,63 +230,38 @@ static PyObject *map_compare_exchange(PyObject *self, PyObject *const *args, Py_
 
 /* ---- batches ------------------------------------------------------------------------------- */
 
-/* Calls for many keys. Words of 64 bits lie in objects of bytes, so that nobody changes them meanwhile. */
+/* Calls for many keys. */
 typedef struct batch {
     samvolip_map *map;
-    const uint64_t *keys, *numbers; /* numbers: NULL if `number` is that of all */
-    uint64_t number, *into;         /* where gets write what they find */
-    size_t count;
+    words keys, values; /* values.at: NULL if `value` is that of all */
+    uint64_t value, *into; /* where gets write what they find */
 } batch;
 
 /* Makes one call of a batch. */
 typedef int each(const batch *all, size_t i);
 
-static inline uint64_t number_at(const batch *all, size_t i) { return all->numbers ? all->numbers[i] : all->number; }
-static int put_one(const batch *all, size_t i) { return samvolip_map_put(all->map, all->keys[i], number_at(all, i), NULL); }
-static int add_one(const batch *all, size_t i) { return samvolip_map_add(all->map, all->keys[i], number_at(all, i), NULL); }
+static inline uint64_t value_at(const batch *all, size_t i) { return all->values.at ? all->values.at[i] : all->value; }
+static int put_one(const batch *all, size_t i) { return samvolip_map_put(all->map, all->keys.at[i], value_at(all, i), NULL); }
+static int add_one(const batch *all, size_t i) { return samvolip_map_add(all->map, all->keys.at[i], value_at(all, i), NULL); }
 
 static int get_one(const batch *all, size_t i)
 {
-    int code = samvolip_map_get(all->map, all->keys[i], &all->into[i]);
+    int code = samvolip_map_get(all->map, all->keys.at[i], &all->into[i]);
     if (code == SAMVOLIP_ABSENT)
-        all->into[i] = all->number;
+        all->into[i] = all->value;
     return code;
 }
 
-/* Reads words; false with an exception. */
-static bool words_of(PyObject *bytes, uint64_t most, const char *range, const uint64_t **words, size_t *count)
+/* Reads one value for all keys, or as many as there are keys. */
+static bool values_of(PyObject *given, batch *all)
 {
-    char *at;
-    Py_ssize_t size;
-    if (PyBytes_AsStringAndSize(bytes, &at, &size) < 0)
+    if (!PyByteArray_Check(given))
+        return value_of(given, &all->value);
+    if (!words_of(given, &a_value, &all->values))
         return false;
-    *words = (const uint64_t *)(const void *)at;
-    *count = (size_t)size / sizeof **words;
-    for (size_t i = 0; i < *count; i++)
-        if ((*words)[i] > most) {
-            PyErr_Format(PyExc_OverflowError,
-                         most == INT64_MAX ? "%s, as %lld at place %zu is" : "%s, not %llu, at place %zu", range, (*words)[i], i);
-            return false;
-        }
-    return true;
-}
-
-static bool keys_of(PyObject *bytes, batch *all)
-{
-    return words_of(bytes, SAMVOLIP_KEY_MAX, "a key is from 0 to 2**64 - 3", &all->keys, &all->count);
-}
-
-/* Reads one number for all keys, or as many as there are keys. */
-static bool numbers_of(PyObject *given, batch *all)
-{
-    size_t count;
-    if (!PyBytes_Check(given))
-        return value_of(given, &all->number);
-    if (!words_of(given, SAMVOLIP_VALUE_MAX, "a value is from 0 to 2**60 - 1", &all->numbers, &count))
-        return false;
-    if (count == all->count)
+    if (all->values.count == all->keys.count)
         return true;
-    PyErr_Format(PyExc_ValueError, "there are %zu keys, and %zu numbers", all->count, count);
+    PyErr_Format(PyExc_ValueError, "there are %zu keys, and %zu values", all->keys.count, all->values.count);
     return false;
 }
 
@@ -372,18 +269,15 @@ static bool numbers_of(PyObject *given, batch *all)
 static bool run(const batch *all, each *call)
 {
     int code = SAMVOLIP_OK;
-    for (size_t from = 0; from < all->count;) {
-        size_t to = all->count - from > PART ? from + PART : all->count;
-        void *state = all->count > FEW ? let_go() : NULL;
+    for (size_t from = 0, count = all->keys.count; from < count;) {
+        size_t to = count - from > PART ? from + PART : count;
+        void *state = count > FEW ? let_go() : NULL;
         while (from < to && (code = call(all, from)) >= 0)
             from++;
         take_back(state);
         if (code < 0)
-            PyErr_Format(code == SAMVOLIP_E_OUT_OF_MEMORY ? PyExc_MemoryError
-                         : code == SAMVOLIP_E_SUM_RANGE   ? PyExc_OverflowError
-                                                          : PyExc_RuntimeError,
-                         "%s at key %llu; the %zu calls before it were made", samvolip_map_strerror(code),
-                         (unsigned long long)all->keys[from], from);
+            PyErr_Format(exception_of(code), "keys[%zu] is %llu: %s; the %zu calls before it were made", from,
+                         (unsigned long long)all->keys.at[from], meaning(code), from);
         if (code < 0 || PyErr_CheckSignals() < 0)
             return false;
     }
@@ -393,7 +287,7 @@ static bool run(const batch *all, each *call)
 static PyObject *run_writes(PyObject *self, PyObject *const *args, Py_ssize_t count, const char *name, each *call)
 {
     batch all = {.map = map_of(self)};
-    if (!all.map || !takes(name, count, 2, 2) || !keys_of(args[0], &all) || !numbers_of(args[1], &all) || !run(&all, call))
+    if (!all.map || !takes(name, count, 2, 2) || !words_of(args[0], &a_key, &all.keys) || !values_of(args[1], &all) || !run(&all, call))
         return NULL;
     Py_RETURN_NONE;
 }
@@ -409,27 +303,19 @@ static PyObject *map_add_words(PyObject *self, PyObject *const *args, Py_ssize_t
 
 static PyObject *map_get_words(PyObject *self, PyObject *const *args, Py_ssize_t count)
 {
+    static const kind a_default = {"the default", "defaults", "the default is from 0 to 2**64 - 1", UINT64_MAX};
     batch all = {.map = map_of(self)};
-    if (!all.map || !takes("get_many", count, 2, 2) || !keys_of(args[0], &all)
-        || !read_number(args[1], UINT64_MAX, "the default", "the default is from 0 to 2**64 - 1", &all.number))
+    if (!all.map || !takes("get_many", count, 2, 2) || !words_of(args[0], &a_key, &all.keys)
+        || !number_of(args[1], &a_default, &all.value))
         return NULL;
-    PyObject *made = PyBytes_FromStringAndSize(NULL, (Py_ssize_t)(all.count * sizeof *all.into));
+    PyObject *made = PyByteArray_FromStringAndSize(NULL, (Py_ssize_t)(all.keys.count * sizeof *all.into));
     if (!made)
         return NULL;
-    all.into = (uint64_t *)(void *)PyBytes_AsString(made);
+    all.into = (uint64_t *)(void *)PyByteArray_AsString(made);
     if (run(&all, get_one))
         return made;
     Py_DECREF(made);
     return NULL;
-}
-
-/* Refuses words that are negative numbers. */
-static PyObject *check_signs(PyObject *module, PyObject *bytes)
-{
-    const uint64_t *words;
-    size_t count;
-    (void)module;
-    return words_of(bytes, INT64_MAX, "no key and no value is negative", &words, &count) ? Py_NewRef(bytes) : NULL;
 }
 
 /* ---- the whole map ------------------------------------------------------------------------- */
@@ -475,9 +361,9 @@ static PyObject *map_renew(PyObject *self, PyObject *const *args, Py_ssize_t cou
 {
     samvolip_map *map = map_of(self);
     uint64_t room = 0;
+    static const kind a_room = {"the room", "rooms", "the room is from 0 to 2**64 - 1", UINT64_MAX};
     int code;
-    if (!map || !takes("renew", count, 0, 1) ||
-        (count == 1 && !read_number(args[0], UINT64_MAX, "the room", "the room is from 0 to 2**64 - 1", &room)))
+    if (!map || !takes("renew", count, 0, 1) || (count == 1 && !number_of(args[0], &a_room, &room)))
         return NULL;
     void *state = let_go();
     code = samvolip_map_renew(map, room);
@@ -511,55 +397,91 @@ static PyObject *map_look(PyObject *self, PyObject *unused)
     return Py_BuildValue("KKKKKKKK", at.renewals, at.refused, at.write_stop, at.read_stop, at.all_stops, at.slots, at.keys, at.own_threads);
 }
 
-/* All entries of one moment, as words: a key, its number, and so on. */
+/* All entries of one moment, as words: a key, its value, and so on. */
 static PyObject *map_snapshot_words(PyObject *self, PyObject *unused)
 {
     samvolip_map *map = map_of(self);
-    samvolip_entry *entries = NULL;
-    size_t room = 0, count = 0;
-    int code = SAMVOLIP_E_ROOM;
+    uint64_t count = 0;
+    PyObject *made = NULL;
+    int code = map ? samvolip_map_size_estimate(map, &count) : SAMVOLIP_OK;
     (void)unused;
-    if (!map)
-        return NULL;
-    void *state = let_go();
-    while (code == SAMVOLIP_E_ROOM && (code = samvolip_map_snapshot(map, entries, room, &count)) == SAMVOLIP_E_ROOM) {
-        free(entries);
-        room = count + count / 8 + 64; /* others may add keys */
-        entries = malloc(room * sizeof *entries);
-        if (!entries)
-            code = SAMVOLIP_E_OUT_OF_MEMORY;
+    if (!map || code < 0)
+        return map ? refuse(code) : NULL;
+    do {
+        size_t room = count + count / 8 + 64; /* others may add keys */
+        Py_XDECREF(made);
+        made = PyByteArray_FromStringAndSize(NULL, (Py_ssize_t)(room * sizeof(samvolip_entry)));
+        if (!made)
+            return NULL;
+        samvolip_entry *entries = (samvolip_entry *)(void *)PyByteArray_AsString(made);
+        void *state = let_go();
+        code = samvolip_map_snapshot(map, entries, room, &count);
+        take_back(state);
+    } while (code == SAMVOLIP_E_ROOM);
+    if (code < 0) {
+        Py_DECREF(made);
+        return refuse(code);
     }
-    take_back(state);
-    PyObject *made = code < 0 ? refuse(code) : PyBytes_FromStringAndSize((const char *)entries, (Py_ssize_t)(count * sizeof *entries));
-    free(entries);
+    PyByteArray_Resize(made, (Py_ssize_t)(count * sizeof(samvolip_entry))); /* smaller, so it isn't refused */
     return made;
 }
 
 /* ---- beginning and end --------------------------------------------------------------------- */
 
-/* __init__(room, memory, growth, threads, keys) */
-static int map_init(PyObject *itself, PyObject *args, PyObject *named)
+/* The options of __init__, in their order; as kinds of whole numbers they have the range that a message says. */
+enum { OPTIONS = 5 };
+static const kind option_kinds[OPTIONS] = {
+    {"room", "", "room: for at most 178956970 keys", UINT64_MAX},
+    {"memory", "", "memory: from 0 to 2**64 - 1", UINT64_MAX},
+    {"growth", "", "growth: from 2 to 64 times", UINT32_MAX},
+    {"threads", "", "threads: at most 240", UINT32_MAX},
+    {"keys", "", "keys: from 0 to 2", UINT32_MAX},
+};
+
+/* Raises which option is wrong, and what was given. */
+static void refuse_options(const samvolip_map_options *options, PyObject *args)
 {
-    Map *self = (Map *)itself;
-    uint64_t read[5] = {0};
-    if (named && PyDict_Size(named) > 0) {
-        PyErr_SetString(PyExc_TypeError, "the options of the map itself have no names");
-        return -1;
-    }
-    for (Py_ssize_t i = 0; i < 5 && i < PyTuple_Size(args); i++)
-        if (!read_number(PyTuple_GetItem(args, i), i < 2 ? UINT64_MAX : UINT32_MAX,
-                         "an option", "an option isn't negative, nor so large", &read[i]))
-            return -1;
+    const char *why = samvolip_map_wrong_option(options);
+    for (Py_ssize_t i = 0; i < OPTIONS && i < PyTuple_Size(args); i++)
+        if (strncmp(why, option_kinds[i].one, strlen(option_kinds[i].one)) == 0) {
+            PyErr_Format(PyExc_ValueError, "%s, not %S", why, PyTuple_GetItem(args, i));
+            return;
+        }
+    PyErr_SetString(PyExc_ValueError, why);
+}
+
+/* Opens a map; NULL with an exception. */
+static samvolip_map *open_map(PyObject *args)
+{
+    uint64_t read[OPTIONS] = {0};
+    for (Py_ssize_t i = 0; i < OPTIONS && i < PyTuple_Size(args); i++)
+        if (!number_of(PyTuple_GetItem(args, i), &option_kinds[i], &read[i]))
+            return NULL;
     samvolip_map_options options = {read[0], read[1], (uint32_t)read[2], (uint32_t)read[3], (uint32_t)read[4]};
     samvolip_map *map = NULL;
     void *state = let_go();
     int code = samvolip_map_open(&options, &map);
     take_back(state);
     if (code == SAMVOLIP_E_OPTIONS)
-        return PyErr_SetString(PyExc_ValueError, samvolip_map_wrong_option(&options)), -1;
-    if (code < 0)
-        return refuse(code), -1;
-    samvolip_map_lets_go(map, let_go, take_back);
+        refuse_options(&options, args);
+    else if (code < 0)
+        refuse(code);
+    else
+        samvolip_map_lets_go(map, let_go, take_back);
+    return code < 0 ? NULL : map;
+}
+
+/* __init__(room, memory, growth, threads, keys) */
+static int map_init(PyObject *itself, PyObject *args, PyObject *named)
+{
+    Map *self = (Map *)itself;
+    if (named && PyDict_Size(named) > 0) {
+        PyErr_SetString(PyExc_TypeError, "the options of the map itself have no names");
+        return -1;
+    }
+    samvolip_map *map = open_map(args);
+    if (!map)
+        return -1;
     bool is_open;
     ALONE_WITH(itself);
     is_open = self->map;
@@ -581,33 +503,36 @@ static void map_dealloc(PyObject *self)
     Py_DECREF(type);
 }
 
-#define FAST(function) ((PyCFunction)(void (*)(void))(function)), METH_FASTCALL
+/* A method's text begins with its parameters, as inspect.signature reads them. */
+#define TEXT(name, parameters, text) #name "($self" parameters ", /)\n--\n\n" text
+#define FAST(name, function, parameters, text) {#name, (PyCFunction)(void (*)(void))(function), METH_FASTCALL, TEXT(name, parameters, text)}
 static PyMethodDef map_methods[] = {
-    {"get", FAST(map_get), "get(key, default=None): the number at a key, or the default."},
-    {"put", FAST(map_put), "put(key, number): puts a number at a key. What was there, or None."},
-    {"put_if_absent", FAST(map_put_if_absent),
-     "put_if_absent(key, number): puts a number at a key that has none. What was there: None if it did."},
-    {"replace", FAST(map_replace), "replace(key, number): puts a number at a key that has one. What was there: None if it didn't."},
-    {"replace_if", FAST(map_replace_if), "replace_if(key, old, number): puts a number in place of another. Whether it did."},
-    {"remove", map_remove, METH_O, "remove(key): takes a key out. What was there, or None."},
-    {"remove_if", FAST(map_remove_if), "remove_if(key, number): takes a key out that has this number. Whether it did."},
-    {"add", FAST(map_add), "add(key, number=1): adds a number to what is at a key, or to 0. What was there, or None."},
-    {"fetch_max", FAST(map_fetch_max), "fetch_max(key, number): leaves the greater of two numbers. What was there, or None."},
-    {"fetch_min", FAST(map_fetch_min), "fetch_min(key, number): leaves the smaller of two numbers. What was there, or None."},
-    {"compare_exchange", FAST(map_compare_exchange),
-     "compare_exchange(key, expected, next): puts next in place of expected; None is no number, of both.\n"
-                                                     "What was there, or None: it did it if that is what was expected."},
-    {"setdefault", FAST(map_setdefault), "setdefault(key, number=0): the number at a key; if there is none, this one, which is put there."},
-    {"pop", FAST(map_pop), "pop(key[, default]): takes a key out. What was there; else the default, or KeyError without one."},
-    {"clear", map_clear, METH_NOARGS, "clear(): removes all keys, in one step."},
-    {"size_estimate", map_size_estimate, METH_NOARGS, "size_estimate(): about how many keys there are; exact while nobody writes."},
-    {"renew", FAST(map_renew), "renew(room=0): lays the map anew, with room for so many keys, or as its options say."},
-    {"leave", map_leave, METH_NOARGS, "leave(): gives back what this thread has of the map, before the thread ends. It may call again."},
-    {"_snapshot_words", map_snapshot_words, METH_NOARGS, NULL},
-    {"_put_words", FAST(map_put_words), NULL},
-    {"_add_words", FAST(map_add_words), NULL},
-    {"_get_words", FAST(map_get_words), NULL},
-    {"_look", map_look, METH_NOARGS, NULL},
+    FAST(get, map_get, ", key, default=None", "The value at a key, or the default."),
+    FAST(put, map_put, ", key, value", "Puts a value at a key. What was there, or None."),
+    FAST(put_if_absent, map_put_if_absent, ", key, value", "Puts a value at a key that has none. What was there: None if it did."),
+    FAST(replace, map_replace, ", key, value", "Puts a value at a key that has one. What was there: None if it didn't."),
+    FAST(replace_if, map_replace_if, ", key, old, value", "Puts a value in place of the old one. Whether it did."),
+    {"remove", map_remove, METH_O, TEXT(remove, ", key", "Takes a key out. What was there, or None.")},
+    FAST(remove_if, map_remove_if, ", key, value", "Takes a key out that has this value. Whether it did."),
+    FAST(add, map_add, ", key, value=1", "Adds a value to what is at a key, or to 0. What was there, or None."),
+    FAST(fetch_max, map_fetch_max, ", key, value", "Leaves the greater of two values. What was there, or None."),
+    FAST(fetch_min, map_fetch_min, ", key, value", "Leaves the smaller of two values. What was there, or None."),
+    FAST(compare_exchange, map_compare_exchange, ", key, expected, next",
+         "Puts next in place of expected; None is no value, of both.\n\n"
+         "What was there, or None: it did it if that is what was expected."),
+    FAST(setdefault, map_setdefault, ", key, value=0", "The value at a key; if there is none, this one, which is put there."),
+    FAST(pop, map_pop, ", key, default=...", "Takes a key out. What was there; else the default, or KeyError without one."),
+    {"clear", map_clear, METH_NOARGS, TEXT(clear, "", "Removes all keys, in one step.")},
+    {"size_estimate", map_size_estimate, METH_NOARGS,
+     TEXT(size_estimate, "", "About how many keys there are; exact while nobody writes.")},
+    FAST(renew, map_renew, ", room=0", "Lays the map anew, with room for so many keys, or as its options say."),
+    {"leave", map_leave, METH_NOARGS,
+     TEXT(leave, "", "Gives back what this thread has of the map, before the thread ends. It may call again.")},
+    {"_snapshot_words", map_snapshot_words, METH_NOARGS, TEXT(_snapshot_words, "", "All entries of one moment, as words.")},
+    FAST(_put_words, map_put_words, ", keys, values", "put_many, of words."),
+    FAST(_add_words, map_add_words, ", keys, values", "add_many, of words."),
+    FAST(_get_words, map_get_words, ", keys, default", "get_many, of words."),
+    {"_look", map_look, METH_NOARGS, TEXT(_look, "", "The figures.")},
     {NULL, NULL, 0, NULL},
 };
 
@@ -633,6 +558,7 @@ typedef struct Walk {
     PyObject *over; /* the map, which lives as long */
     samvolip_map_walk *walk; /* NULL: it is at its end */
     int shows;
+    size_t steps;
 } Walk;
 
 enum { KEYS, VALUES, ITEMS };
@@ -685,11 +611,17 @@ static void walk_dealloc(PyObject *self)
 static PyObject *walk_next(PyObject *itself)
 {
     Walk *self = (Walk *)itself;
-    uint64_t key, number;
+    uint64_t key, value;
+    size_t step;
     int code = SAMVOLIP_ABSENT;
     ALONE_WITH(itself);
+    step = self->steps++;
+    ALONE_NO_MORE;
+    if (!goes_on(step)) /* list(m) and the like make all steps in one call */
+        return NULL;
+    ALONE_WITH(itself);
     if (self->walk)
-        code = samvolip_map_walk_next(self->walk, &key, &number);
+        code = samvolip_map_walk_next(self->walk, &key, &value);
     if (code == SAMVOLIP_ABSENT)
         walk_clear(itself);
     ALONE_NO_MORE;
@@ -698,10 +630,10 @@ static PyObject *walk_next(PyObject *itself)
     if (code == SAMVOLIP_ABSENT)
         return NULL;
     if (self->shows != ITEMS)
-        return PyLong_FromUnsignedLongLong(self->shows == KEYS ? key : number);
+        return PyLong_FromUnsignedLongLong(self->shows == KEYS ? key : value);
     PyObject *pair = PyTuple_New(2);
     if (pair && (PyTuple_SetItem(pair, 0, PyLong_FromUnsignedLongLong(key)) < 0 ||
-                 PyTuple_SetItem(pair, 1, PyLong_FromUnsignedLongLong(number)) < 0))
+                 PyTuple_SetItem(pair, 1, PyLong_FromUnsignedLongLong(value)) < 0))
         Py_CLEAR(pair);
     return pair;
 }
@@ -755,8 +687,15 @@ static int clear(PyObject *module)
     return 0;
 }
 
+#define FUNCTION(name, parameters, text) \
+    {#name, (PyCFunction)(void (*)(void))name, METH_FASTCALL, #name "($module, " parameters ", /)\n--\n\n" text}
 static PyMethodDef functions[] = {
-    {"check_signs", check_signs, METH_O, "The same words, if none is a negative number."},
+    FUNCTION(read_words, "numbers, are_values", "Whole numbers as words; are_values says what they are, else keys."),
+    FUNCTION(check_signs, "words, are_values", "Refuses words that are negative numbers."),
+    FUNCTION(column, "entries, of_values", "All keys, or all values, as words."),
+    FUNCTION(most_common, "entries, n", "The n pairs with the greatest values, or all if n is None."),
+    FUNCTION(are_equal, "entries, other", "Whether entries are those of others, or of a dict."),
+    {"dict_of", dict_of, METH_O, "dict_of($module, entries, /)\n--\n\nThe entries as a dict."},
     {NULL, NULL, 0, NULL},
 };
 

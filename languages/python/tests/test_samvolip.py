@@ -5,13 +5,16 @@ CPython's own tests of a mapping are in test_mapping.py. Where a call is wrong o
 
 from __future__ import annotations
 
+import ast
 import collections
 import copy
 import gc
 import importlib
+import inspect
 import multiprocessing
 import os
 import pickle
+import pydoc
 import random
 import re
 import resource
@@ -114,6 +117,19 @@ class Calls(unittest.TestCase):
             self.assertEqual(sorted(m), [0, 1, 2**63, KEY_MAX - 1, KEY_MAX])
         self.assertEqual((KEY_MAX, VALUE_MAX), (2**64 - 3, 2**60 - 1))
 
+    def test_contains(self):
+        """What can't be a key isn't there, and what is unhashable is refused, as of a dict."""
+        m: Any = Map({1: 2, 3: 4})
+        for there in (m, m.keys()):
+            self.assertTrue(1 in there and True in there and 2 not in there)
+            for none in ("a", None, 1.0, b"1", (1,), object(), -1, KEY_MAX + 1, 2**64, -(10**30)):
+                self.assertFalse(none in there)
+            for wrong in ([], {}, m):
+                self.assertRaisesRegex(TypeError, "unhashable type: ", there.__contains__, wrong)
+                self.assertRaisesRegex(TypeError, "unhashable type: ", {}.__contains__, wrong)
+        self.assertTrue((1, 2) in m.items() and ("a", 2) not in m.items() and (-1, 2) not in m.items() and (2, None) not in m.items())
+        self.assertRaises(TypeError, m.items().__contains__, ([], 1))
+
     def test_what_is_a_whole_number(self):
         class Seven:
             def __index__(self):
@@ -126,6 +142,8 @@ class Calls(unittest.TestCase):
         m = Map({Seven(): True})
         self.assertEqual((m[7], type(m[7]), m[Seven()], m.get(False), Seven() in m.keys()), (1, int, 1, None, True))
         self.assertRaises(ZeroDivisionError, m.get, Broken())
+        self.assertRaises(ZeroDivisionError, m.__contains__, Broken())
+        self.assertRaises(ZeroDivisionError, m.add_many, [1, Broken()])
 
 
 class Refusals(unittest.TestCase):
@@ -139,7 +157,6 @@ class Refusals(unittest.TestCase):
             m.add,
             m.setdefault,
             m.__getitem__,
-            m.__contains__,
             m.__delitem__,
             lambda key: m.get(key, 1),
             lambda key: m.pop(key, 1),
@@ -201,18 +218,39 @@ class Refusals(unittest.TestCase):
             (lambda: m.add(1, "a"), "a value is a whole number, not str"),
             (lambda: m[10**5000], "a key is from 0 to 2**64 - 3"),
             (lambda: m.add(1), "the sum is past 2**60 - 1"),
-            (lambda: m.add_many([2, 1, 3]), "sum too large at key 1; the 1 calls before it were made"),
-            (lambda: m.add_many([3, KEY_MAX + 1]), "a key is from 0 to 2**64 - 3, not 18446744073709551614, at place 1"),
-            (lambda: m.add_many(array("q", [3, -2])), "no key and no value is negative, as -2 at place 1 is"),
-            (lambda: m.put_many([3, 4], [1]), "there are 2 keys, and 1 numbers"),
+            (lambda: m.add_many([2, 1, 3]), "keys[1] is 1: the sum is past 2**60 - 1; the 1 calls before it were made"),
+            (lambda: m.add_many([3, -2]), "keys[1] is -2: a key is from 0 to 2**64 - 3"),
+            (lambda: m.add_many([3, KEY_MAX + 1]), "keys[1] is 18446744073709551614: a key is from 0 to 2**64 - 3"),
+            (lambda: m.add_many([10**5000]), "keys[0] is too long to be shown: a key is from 0 to 2**64 - 3"),
+            (lambda: m.get_many(array("q", [3, -2])), "keys[1] is -2: a key is from 0 to 2**64 - 3"),
+            (lambda: m.get_many(array("Q", [3, 2**64 - 2])), "keys[1] is 18446744073709551614: a key is from 0 to 2**64 - 3"),
+            (lambda: m.add_many(array("i", [3, 4, -2])), "keys[2] is -2: a key is from 0 to 2**64 - 3"),
+            (lambda: m.put_many([3, 4, "a"], 1), "keys[2] is of type str: a key is a whole number"),
+            (lambda: m.put_many("34", 1), "keys[0] is of type str: a key is a whole number"),
+            (lambda: m.add_many([3, 4], [1, 2.0]), "values[1] is of type float: a value is a whole number"),
+            (lambda: m.add_many([3, 4], [1, 2**60]), "values[1] is 1152921504606846976: a value is from 0 to 2**60 - 1"),
+            (lambda: m.add_many([3, 4], array("l", [1, -1])), "values[1] is -1: a value is from 0 to 2**60 - 1"),
+            (lambda: m.add_many([3, 4], -1), "a value is from 0 to 2**60 - 1, not -1"),
+            (lambda: m.update({3: 1, 4: -1}), "values[1] is -1: a value is from 0 to 2**60 - 1"),
+            (lambda: m.update([(3, 1), (4, 1, 1)]), "pairs[1] isn't a key and a value: too many values to unpack (expected 2)"),
+            (lambda: m.update([(3, 1), 4]), "pairs[1] isn't a key and a value: cannot unpack non-iterable int object"),
+            (lambda: m.add_many(collections.Counter("a")), "keys[0] is of type str: a key is a whole number"),
+            (lambda: m.put_many([3, 4], [1]), "there are 2 keys, and 1 values"),
             (lambda: m.put_many(memoryview(bytes(16)).cast("Q", (1, 2)), 1), "a buffer has one dimension, not 2"),
             (lambda: m.put(1), "put() takes 2 arguments, not 1"),
             (lambda: m.add(), "add() takes 1 or 2 arguments, not 0"),
             (lambda: Map(keys="hashed"), "keys are one of 'secret', 'mixed', 'as they are', not 'hashed'"),
-            (lambda: Map(growth=1), "growth: from 2 to 64 times"),
-            (lambda: Map(threads=1000), "threads: at most 240"),
+            (lambda: Map(growth=1), "growth: from 2 to 64 times, not 1"),
+            (lambda: Map(threads=1000), "threads: at most 240, not 1000"),
+            (lambda: Map(threads=-1), "threads: at most 240, not -1"),
+            (lambda: Map(threads=2**32), "threads: at most 240, not 4294967296"),
+            (lambda: Map(threads=1.5), "threads is a whole number, not float"),  # type: ignore[arg-type]
+            (lambda: Map(growth=-1), "growth: from 2 to 64 times, not -1"),
+            (lambda: Map(room=2**28), "room: for at most 178956970 keys, not 268435456"),
+            (lambda: Map(room=2**64), "room: for at most 178956970 keys, not 18446744073709551616"),
+            (lambda: Map(memory=-1), "memory: from 0 to 2**64 - 1, not -1"),
             (lambda: Map(memory=65535), "memory: at least that of two first tables, so that a map can be cleared and renewed; "
-             "with the default room 65536"),
+             "with the default room 65536, not 65535"),
             (lambda: samvolip.Map.__new__(Map).get(1), "the map isn't open: its __init__ wasn't called"),
         ]:
             with self.assertRaises((OverflowError, TypeError, ValueError)) as raised:
@@ -245,16 +283,19 @@ class Refusals(unittest.TestCase):
 
     def test_memory(self):
         m = Map(memory=2**16)
-        with self.assertRaises(MemoryError):
+        with self.assertRaises(MemoryError) as raised:
             for key in range(100_000):
                 m[key] = key
+        text = "the map gets no memory: the system refuses it, or its option memory does"
+        self.assertEqual(str(raised.exception), text)
         count = len(m)
         self.assertTrue(1000 < count < 4096)
         with self.assertRaises(MemoryError) as raised:
             m.put_many(range(100_000, 200_000), 5)
         made = int(re.search(r"the (\d+) calls before it were made", str(raised.exception))[1])  # type: ignore[index]
         self.assertEqual((len(m), m[0]), (count + made, 0))
-        self.assertRaises(MemoryError, m.renew, 2**62)
+        self.assertEqual(str(raised.exception), f"keys[{made}] is {100_000 + made}: {text}; the {made} calls before it were made")
+        self.assertRaisesRegex(MemoryError, text, m.renew, 2**62)
         self.assertTrue(m.figures().refused > 0)
         while len(m) > 500:
             m.popitem()
@@ -284,6 +325,20 @@ class Mapping(unittest.TestCase):
         m = Map({1: 2, 3: 4})
         self.assertTrue(m == {3: 4, 1: 2} and {3: 4, 1: 2} == m and m == Map([(1, 2), (3, 4)]) and m != {1: 2} and m != {"a": 1})
         self.assertTrue(m != [(1, 2)] and Map() == {} and not Map() and m)
+        self.assertTrue(m != {1: 2, 5: 4} and m != {1: 2, 3: 5} and m != Map({1: 2, 3: 5}) and m != Map({1: 2, 5: 4}) and m != Map({1: 2}))
+        self.assertTrue(m == collections.OrderedDict({3: 4, 1: 2}) and m == collections.ChainMap({1: 2}, {3: 4}) and m == {1.0: 2.0, 3: 4})
+        zeros, missing = Map({1: 0, 3: 0}), collections.defaultdict(int, {1: 0, 5: 0})
+        self.assertTrue(zeros != collections.Counter({1: 0, 5: 0}) and zeros != missing and len(missing) == 2)
+        for kind in (lambda: random.randrange(5000), lambda: random.randrange(KEY_MAX)):
+            values = {kind(): random.randrange(VALUE_MAX) for _ in range(3000)}
+            m, other = Map(values), Map(values, keys="as they are")
+            self.assertTrue(m == other == values and values == m)
+            key = random.choice(list(values))
+            other.add(key)
+            self.assertTrue(m != other and other != values)
+            other.remove(key)
+            other[KEY_MAX] = values[key]
+            self.assertTrue(m != other and other != values)
 
     def test_update(self):
         class HasKeys:
@@ -338,6 +393,8 @@ class Mapping(unittest.TestCase):
         self.assertEqual(Named("a").copy().name, "a")
 
     def test_repr(self):
+        many = {key * 3: key for key in range(20_000)}
+        self.assertEqual(eval(repr(Map(many))), many)
         self.assertEqual((repr(Map()), repr(Map({1: 2})), eval(repr(Map({3: 4, 1: 2})))), ("Map({})", "Map({1: 2})", {1: 2, 3: 4}))
 
     def test_popitem(self):
@@ -353,6 +410,52 @@ class Mapping(unittest.TestCase):
         m.add_many(b"mississippi")
         self.assertEqual(set(m.most_common(2)), {(ord("s"), 4), (ord("i"), 4)})
         self.assertEqual(([n for _, n in m.most_common()], m.most_common(0)), ([4, 4, 2, 1], []))
+        for kind in (lambda: random.randrange(5), lambda: random.randrange(2**60), lambda: 1 << random.randrange(60)):
+            values = {random.randrange(KEY_MAX): kind() for _ in range(2000)}
+            m = Map(values)
+            entries = m.snapshot().items()
+            for n in (None, 3, 1000, 5000, -1, 2**70):
+                most = sorted(entries, key=lambda entry: entry[1], reverse=True)  # as of a Counter, also of those that are the same
+                self.assertEqual(m.most_common(n), most if n is None else most[: max(n, 0)])
+        self.assertRaises(TypeError, m.most_common, 1.5)
+
+
+class Signatures(unittest.TestCase):
+    """help and inspect.signature tell the parameters of each call; those of the extension are those of its stub."""
+
+    # of object and of Mapping, and what has operators
+    public = [name for name in dir(Map) if not name.startswith("_")]
+
+    def test_of_all(self):
+        shown = {name: str(inspect.signature(getattr(Map, name))) for name in self.public}
+        self.assertEqual(shown["put"], "(self, key, value, /)")
+        self.assertEqual(shown["add"], "(self, key, value=1, /)")
+        self.assertEqual(shown["get"], "(self, key, default=None, /)")
+        self.assertEqual(shown["clear"], "(self, /)")
+        self.assertEqual(shown["pop"], "(self, key, default=Ellipsis, /)")
+        self.assertIn("= 1, /)", shown["add_many"])
+        self.assertEqual(str(inspect.signature(Map().compare_exchange)), "(key, expected, next, /)")
+        self.assertFalse([name for name, parameters in shown.items() if "number" in parameters])
+        for name in self.public:
+            text = pydoc.render_doc(getattr(Map, name), renderer=pydoc.plaintext)  # type: ignore[attr-defined]
+            self.assertIn(f"{name}(", text)
+            self.assertTrue(getattr(Map, name).__doc__)
+            self.assertNotIn("number", text.split("\n", 2)[2])
+
+    def test_of_the_stub(self):
+        stub = os.path.join(os.path.dirname(os.path.abspath(__file__)), "../samvolip/_map.pyi")
+        with open(stub) as file:
+            base = next(one for one in ast.parse(file.read()).body if isinstance(one, ast.ClassDef) and one.name == "Base")
+        calls = [one for one in base.body if isinstance(one, ast.FunctionDef) and not one.name.startswith("__")]
+        self.assertEqual({call.name for call in calls}, {name for name, one in vars(samvolip.Map.__base__).items() if callable(one)
+                                                         and not name.startswith("__")})
+        for call in calls:
+            parameters = list(inspect.signature(getattr(Map, call.name)).parameters.values())
+            names = [argument.arg for argument in (*call.args.posonlyargs, *call.args.args)]
+            with self.subTest(call.name):
+                self.assertEqual([one.name for one in parameters][: len(names)], names)
+                for one, default in zip(parameters[::-1], call.args.defaults[::-1]):
+                    self.assertEqual(one.default, ast.literal_eval(default))
 
 
 class Loops(unittest.TestCase):
@@ -507,6 +610,22 @@ class Batches(unittest.TestCase):
         self.assertEqual((found, found.typecode), (array("Q", [10, 0, 50]), "Q"))
         self.assertEqual((m.get_many([9], 2**64 - 1)[0], m.get_many(b"")), (2**64 - 1, array("Q")))
         self.assertRaises(OverflowError, m.get_many, [1], -1)
+
+    def test_mappings(self):
+        """The values of a mapping are added, unless others are given."""
+        m, counts = Map({1: 10}), collections.Counter([1, 1, 2])
+        m.add_many(counts)
+        self.assertEqual(m, {1: 12, 2: 1})
+        m.add_many(m)
+        m.add_many(collections.ChainMap({3: 5}))
+        self.assertEqual(m, {1: 24, 2: 2, 3: 5})
+        m.add_many(counts, 1)
+        m.add_many(m, 0)
+        m.add_many(counts.keys())
+        m.add_many({4: 0})
+        self.assertEqual((m, m.get_many(counts), m[4]), ({1: 26, 2: 4, 3: 5, 4: 0}, array("Q", [26, 4]), 0))
+        m.put_many({1: 5, 2: 6}, 7)
+        self.assertEqual((m[1], m[2]), (7, 7))
 
     def test_numpy(self):
         try:

@@ -1,0 +1,184 @@
+"""Calls of the whole map, and long batches, let other threads have the interpreter, and answer signals.
+
+Times are those of this thread's processor, so that a busy machine counts for little: where it isn't at work, no one waits for it.
+"""
+
+from __future__ import annotations
+
+import itertools
+import pickle
+import random
+import signal
+import threading
+import time
+import unittest
+from array import array
+from collections.abc import Callable
+from typing import Any
+
+from samvolip import Map
+
+COUNT = 1_000_000
+STANDS = 0.020  # so long another thread stands at most
+ANSWERED = 0.3  # so long it takes at most until a signal is answered
+
+
+def filled(count: int) -> Map:
+    """A map with keys in no order; a few of the values are the same."""
+    keys = array("Q", random.Random(count).randbytes(8 * count))
+    m = Map()
+    m.put_many(keys, array("Q", (key % (2 * count) for key in keys)))
+    return m
+
+
+def stood(call: Callable[[], object], enough: float = 0.0) -> float:
+    """How long another thread stands while this one makes a call: the least of some turns, since it may stand for others."""
+    return min(itertools.chain([1e9], until(enough, (stood_once(call) for _ in range(8)))))
+
+
+def until(enough: float, times: Any) -> Any:
+    for one in times:
+        yield one
+        if one <= enough:
+            return
+
+
+def stood_once(call: Callable[[], object]) -> float:
+    clock = time.pthread_getcpuclockid(threading.get_ident())
+    ticks, longest, goes_on = [0], [0.0], [True]
+
+    def tick() -> None:
+        last = time.clock_gettime(clock)
+        while goes_on[0]:
+            now = time.clock_gettime(clock)
+            longest[0] = max(longest[0], now - last)
+            last = now
+            ticks[0] += 1
+
+    ticking = threading.Thread(target=tick)
+    ticking.start()
+    while ticks[0] < 10:
+        time.sleep(0.001)
+    longest[0] = 0.0
+    made = call()  # it goes later: that is no time of the call
+    goes_on[0] = False
+    ticking.join()
+    del made
+    return longest[0]
+
+
+class Turns(unittest.TestCase):
+    """Another thread stands for a moment, whatever this one calls."""
+
+    m: Map
+    same: dict[int, int]
+
+    @classmethod
+    def setUpClass(cls) -> None:
+        cls.m = filled(COUNT)
+        cls.same = cls.m.snapshot()
+
+    @classmethod
+    def tearDownClass(cls) -> None:
+        del cls.m, cls.same
+
+    def stands(self, call: Callable[[], object]) -> None:
+        self.assertLess(stood(call, STANDS), STANDS)
+
+    def test_most_common(self):
+        self.stands(self.m.most_common)
+        self.stands(lambda: self.m.most_common(10))
+
+    def test_equal(self):
+        other = self.m.copy()
+        self.stands(lambda: self.assertTrue(self.m == other))
+        self.stands(lambda: self.assertTrue(self.m == self.same))
+
+    def test_copies(self):
+        self.stands(self.m.copy)
+        self.stands(self.m.snapshot_arrays)
+        self.stands(lambda: self.m | {1: 2})
+
+    def test_loops(self):
+        self.stands(lambda: sum(self.m.values()))
+        self.stands(lambda: max(self.m))
+
+    def test_snapshot(self):
+        """As long as for any dict that grows to so many entries, and not for all of them."""
+
+        def grow() -> dict[int, int]:
+            made = {}
+            for key, value in self.same.items():
+                made[key] = value
+            return made
+
+        grown = stood(grow)
+        self.assertLess(stood(self.m.snapshot, grown), 1.5 * grown + STANDS)
+
+
+class Interrupted(unittest.TestCase):
+    """The handler of a signal raises in the middle of a long call."""
+
+    def test_interrupted(self):
+        class Stop(Exception):
+            pass
+
+        def handler(*_: object) -> None:
+            raise Stop
+
+        m = filled(2 * COUNT)
+        other, same, numbers = m.copy(), m.snapshot(), list(range(3 * COUNT))
+        calls: list[Callable[[], object]] = [
+            m.snapshot,
+            m.snapshot_arrays,
+            m.most_common,
+            lambda: m.most_common(10),
+            lambda: m == other,
+            lambda: m == same,
+            lambda: repr(m),
+            m.copy,
+            lambda: list(m),
+            lambda: sum(m.values()),
+            lambda: 2**60 in m.values(),
+            lambda: m.update(same),
+            lambda: m.get_many(numbers),
+            lambda: Map.fromkeys(numbers),
+            lambda: pickle.dumps(m),
+        ]
+        signal.signal(signal.SIGPROF, handler)
+        try:
+            for number, call in enumerate(calls):
+                for after in (0.01, 0.15, 0.4):
+                    begun = time.thread_time()
+                    with self.assertRaises(Stop):
+                        signal.setitimer(signal.ITIMER_PROF, after)
+                        while time.thread_time() - begun < 10:
+                            call()
+                    self.assertLess(time.thread_time() - begun - after, ANSWERED, number)
+        finally:
+            signal.setitimer(signal.ITIMER_PROF, 0)
+            signal.signal(signal.SIGPROF, signal.SIG_DFL)
+        self.assertEqual(m, other)
+
+
+class Cost(unittest.TestCase):
+    def test_equal_beside_copy(self):
+        """== takes no more than three times copy."""
+        m = filled(COUNT // 2)
+        other, same = m.copy(), m.snapshot()
+
+        def best(call: Callable[[], object]) -> float:
+            times = []
+            for _ in range(5):
+                begun = time.process_time()
+                call()
+                times.append(time.process_time() - begun)
+            return min(times)
+
+        most = 3 * best(m.copy)
+        self.assertLess(best(lambda: m == other), most)
+        self.assertLess(best(lambda: m == same), most)
+
+
+if __name__ == "__main__":
+    unittest.main()
