@@ -252,17 +252,25 @@ static PyObject *item_of(PyObject *dict, PyObject *key)
     return found;
 }
 
+/* Whether what is found is a value; -1 with an exception. */
+static int is_value(PyObject *found, uint64_t value)
+{
+    uint64_t number;
+    if (PyLong_CheckExact(found))
+        return read_number(found, a_value.most, &number) == READ && number == value;
+    PyObject *made = PyLong_FromUnsignedLongLong(value);
+    int is_it = made ? PyObject_RichCompareBool(found, made, Py_EQ) : -1;
+    Py_XDECREF(made);
+    return is_it;
+}
+
 /* Whether a dict has an entry; -1 with an exception. */
 static int has_entry(PyObject *dict, const samvolip_entry *entry)
 {
-    PyObject *key, *value;
-    if (!make_pair(entry, &key, &value))
-        return -1;
-    PyObject *found = item_of(dict, key);
-    int is_there = found ? PyObject_RichCompareBool(found, value, Py_EQ) : PyErr_Occurred() ? -1 : 0;
+    PyObject *key = PyLong_FromUnsignedLongLong(entry->key), *found = key ? item_of(dict, key) : NULL;
+    int is_there = found ? is_value(found, entry->number) : PyErr_Occurred() ? -1 : 0;
     Py_XDECREF(found);
-    Py_DECREF(key);
-    Py_DECREF(value);
+    Py_XDECREF(key);
     return is_there;
 }
 

@@ -92,10 +92,8 @@ static bool refuse_element(enum reading how, PyObject *given, const kind *as, si
     return false;
 }
 
-bool takes(const char *name, Py_ssize_t count, Py_ssize_t least, Py_ssize_t most)
+bool refuse_count(const char *name, Py_ssize_t count, Py_ssize_t least, Py_ssize_t most)
 {
-    if (count >= least && count <= most)
-        return true;
     if (least < most)
         PyErr_Format(PyExc_TypeError, "%s() takes %zd or %zd arguments, not %zd", name, least, most, count);
     else

@@ -71,7 +71,11 @@ static inline bool number_of(PyObject *given, const kind *as, uint64_t *number)
 }
 
 /* Whether a call has so many arguments; false with an exception. */
-bool takes(const char *name, Py_ssize_t count, Py_ssize_t least, Py_ssize_t most);
+bool refuse_count(const char *name, Py_ssize_t count, Py_ssize_t least, Py_ssize_t most);
+static inline bool takes(const char *name, Py_ssize_t count, Py_ssize_t least, Py_ssize_t most)
+{
+    return (count >= least && count <= most) || refuse_count(name, count, least, most);
+}
 
 /* ---- words --------------------------------------------------------------------------------- */
 

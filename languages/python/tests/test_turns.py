@@ -5,7 +5,6 @@ Times are those of this thread's processor, so that a busy machine counts for li
 
 from __future__ import annotations
 
-import itertools
 import pickle
 import random
 import signal
@@ -14,11 +13,10 @@ import time
 import unittest
 from array import array
 from collections.abc import Callable
-from typing import Any
 
 from samvolip import Map
 
-COUNT = 1_000_000
+COUNT = 400_000
 STANDS = 0.020  # so long another thread stands at most
 ANSWERED = 0.3  # so long it takes at most until a signal is answered
 
@@ -31,16 +29,13 @@ def filled(count: int) -> Map:
     return m
 
 
-def stood(call: Callable[[], object], enough: float = 0.0) -> float:
+def stood(call: Callable[[], object], enough: float, turns: int = 8) -> float:
     """How long another thread stands while this one makes a call: the least of some turns, since it may stand for others."""
-    return min(itertools.chain([1e9], until(enough, (stood_once(call) for _ in range(8)))))
-
-
-def until(enough: float, times: Any) -> Any:
-    for one in times:
-        yield one
-        if one <= enough:
-            return
+    least = 1e9
+    while turns > 0 and least > enough:
+        least = min(least, stood_once(call))
+        turns -= 1
+    return least
 
 
 def stood_once(call: Callable[[], object]) -> float:
@@ -112,8 +107,8 @@ class Turns(unittest.TestCase):
                 made[key] = value
             return made
 
-        grown = stood(grow)
-        self.assertLess(stood(self.m.snapshot, grown), 1.5 * grown + STANDS)
+        most = 1.5 * stood(grow, 0, 2) + STANDS
+        self.assertLess(stood(self.m.snapshot, most), most)
 
 
 class Interrupted(unittest.TestCase):
@@ -127,7 +122,7 @@ class Interrupted(unittest.TestCase):
             raise Stop
 
         m = filled(2 * COUNT)
-        other, same, numbers = m.copy(), m.snapshot(), list(range(3 * COUNT))
+        other, same, numbers = m.copy(), m.snapshot(), list(range(2 * COUNT))
         calls: list[Callable[[], object]] = [
             m.snapshot,
             m.snapshot_arrays,
@@ -148,7 +143,7 @@ class Interrupted(unittest.TestCase):
         signal.signal(signal.SIGPROF, handler)
         try:
             for number, call in enumerate(calls):
-                for after in (0.01, 0.15, 0.4):
+                for after in (0.01, 0.2):
                     begun = time.thread_time()
                     with self.assertRaises(Stop):
                         signal.setitimer(signal.ITIMER_PROF, after)
