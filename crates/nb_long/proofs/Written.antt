@@ -40,15 +40,13 @@ pub put-value :
     {V : Type 0} (m : LongMapOf) (key : ℕ) (want : Want) (value : V) {before after : SeatOf}
     (stored : Stored V) (number : ℕ) → number ≡ stored.receipt.index
     → HasStored m.store value stored.receipt → stored.done ≡ holds_of want stored.before
-    → stored.compared ≡ None
     → HasWritten m.map (call.Write key want (change.Put number)) before after Unlimited (Found stored.before)
     → HasPutValue m key want value before after (Ok stored)
-put-value m key want value {before} {after} stored number is held holds none wrote = record {
+put-value m key want value {before} {after} stored number is held holds wrote = record {
   kept = held;
   wrote = subst (λ number. HasWritten m.map (call.Write key want (change.Put number)) before
       after Unlimited (Replied (record { before = stored.before; matched = stored.done }))) is
       (replied holds wrote);
-  uncompared = none;
   own = wrote.own;
 }
 

@@ -1,7 +1,7 @@
 -- What the calls of a typed map promise: one record for each kind of call. The map and its handles
 -- cite them. `number_at`, `remove` and `meet` promise what the map of numbers promises of its calls
 -- of these kinds (`HasGot`, `HasWritten` and `HasMet` of nb_map/specs/Promises.antt).
-use Rattle.std.specs.Prelude.{◌≡◌, ◌<◌, ℕ, Bool, IfOk, Option, Some, None, Result, Ok, Err}
+use Rattle.std.specs.Prelude.{◌≡◌, ◌<◌, ℕ, Bool, Option, Some, None, Result, Ok, Err}
 use Rattle.boxcar.specs.Table.{Shelves, Where}
 use Rattle.nb_core.specs.declared.calls.Call.TheVariants as call
 use Rattle.nb_core.specs.declared.calls.Change.{Change}
@@ -18,6 +18,7 @@ use Rattle.nb_long.specs.Typed.{HasCompared, HasLostRound, IsLockFreeIf, IsUnsho
 use Rattle.nb_long.specs.declared.map.Compared.{Compared}
 use Rattle.nb_long.specs.declared.map.LongFault.{LongFault}
 use Rattle.nb_long.specs.declared.map.LongFault.TheVariants as fault
+use Rattle.nb_long.specs.declared.map.Replaced.{Replaced}
 use Rattle.nb_long.specs.declared.map.Stored.{Stored}
 use Rattle.nb_long.specs.declared.map.Unshown.{Unshown}
 
@@ -66,8 +67,6 @@ pub record HasPutValue {V : Type 0} (m : LongMapOf) (key : ℕ) (want : Want) (v
   pub kept : IsStoredOrReturned m.store value result
   -- once it is stored, this is a write of the map, with all that such a write promises
   pub wrote : HasPutNumber m key want before after result
-  -- it compares no values
-  pub uncompared : IfOk result (λ stored. stored.compared ≡ None)
   -- the seat is still the map's
   pub own : IsMine m.map after
 
@@ -101,25 +100,37 @@ with_token found (Err unshown) = Err unshown
 -- the key had. Where the value has no number, no call was made. There is always a slot for it.
 abbrev pub HasReplaced :
     {V : Type 0} → (V → V → Bool) → LongMapOf → (key : ℕ) → V → (before after : SeatOf)
-    → Result (Stored V) (LongFault V) → Type 0
-HasReplaced eq m key old before after (Ok stored) =
-    HasCompared eq m key old (change.Put stored.receipt.index) before after stored.compared
-    stored.done
-    × (stored.before ≡ number_of stored.compared)
-HasReplaced eq m key old before after (Err (fault.OutOfMemory back)) = after ≡ before
-HasReplaced eq m key old before after (Err (fault.ValueRange placed)) = after ≡ before
-HasReplaced eq m key old before after (Err (fault.Full receipt)) = ⊥
-HasReplaced eq m key old before after (Err (fault.Unshown receipt)) = IsUnshown key before after
+    → Option (Where V) → Result (Stored V) (LongFault V) → Type 0
+HasReplaced eq m key old before after found (Ok stored) =
+    HasCompared eq m key old (change.Put stored.receipt.index) before after found stored.done
+    × (stored.before ≡ number_of found)
+HasReplaced eq m key old before after found (Err (fault.OutOfMemory back)) = after ≡ before
+HasReplaced eq m key old before after found (Err (fault.ValueRange placed)) = after ≡ before
+HasReplaced eq m key old before after found (Err (fault.Full receipt)) = ⊥
+HasReplaced eq m key old before after found (Err (fault.Unshown receipt)) =
+    IsUnshown key before after
 
--- what `replace_if` promises
+-- what `replace_if` promises, with what was compared
 pub record HasReplacedIf {V : Type 0} (eq : V → V → Bool) (m : LongMapOf) (key : ℕ) (old new : V)
-    (before after : SeatOf) (result : Result (Stored V) (LongFault V)) : Type 0 where
+    (before after : SeatOf) (found : Option (Where V))
+    (result : Result (Stored V) (LongFault V)) : Type 0 where
   -- the new value is stored, or it comes back
   pub kept : IsStoredOrReturned m.store new result
   -- its number was put just where the value that was compared is equal to the old one
-  pub answered : HasReplaced eq m key old before after result
+  pub answered : HasReplaced eq m key old before after found result
   pub lock_free : IsLockFreeIf m key before after
   pub own : IsMine m.map after
+
+-- what `replace_if_told` answers that `replace_if` does, too
+abbrev pub stored_in :
+    {V : Type 0} → Result (Replaced V) (LongFault V) → Result (Stored V) (LongFault V)
+stored_in (Ok replaced) = Ok replaced.stored
+stored_in (Err refusal) = Err refusal
+
+-- and what it answers besides
+abbrev pub found_in : {V : Type 0} → Result (Replaced V) (LongFault V) → Option (Where V)
+found_in (Ok replaced) = replaced.found
+found_in (Err refusal) = None
 
 -- The answer of a round of these: that of the whole call. Or there is none, since another seat has
 -- written the key after it was read, and the round has changed nothing. The change sets the key to

@@ -11,7 +11,7 @@ ghost use Rattle.nb_map.specs.Progress.{Unlimited};
 ghost use Rattle.nb_map.specs.Promises.{HasGot, HasMet, HasWritten};
 ghost use Rattle.nb_map.specs.Promises as outcome;
 ghost use Rattle.nb_long.specs.Handles.{IsWhole, KeepsRest, seats_of};
-ghost use Rattle.nb_long.specs.Promises.{HasChangedIf, HasPutValue, HasReplacedIf, with_token};
+ghost use Rattle.nb_long.specs.Promises.{HasChangedIf, HasPutValue, HasReplacedIf, found_in, stored_in, with_token};
 
 mod closing;
 mod fullness;
@@ -24,7 +24,7 @@ mod updating;
 
 use crate::map::numbers::ByHandle;
 use crate::map::parts::Parts;
-use crate::map::{Compared, LongFault, Stored, Unshown};
+use crate::map::{Compared, LongFault, Replaced, Stored, Unshown};
 use crate::store::{Found, Store};
 use nb_core::{Key, Num, OutOfMemory, Shape};
 use std::alloc::Global;
@@ -141,12 +141,31 @@ impl<V: Drop> Handle<V> {
     ) -> Result<Stored<V>, LongFault<V>>
     where
         V: PartialEq,
+        ensures wrote { (found : Option (Where _)) × HasReplacedIf V.eq self.old.map key old.now
+            new self.old.seat self.new.seat found result }
+        ensures rest { KeepsRest self.old self.new }
+    {
+        let replaced = self.replace_if_told(rt, key, old, new)?;
+        Ok(replaced.stored)
+    }
+
+    /// The same, and answers what reads the value that was compared, too:
+    /// `LongMap::replace_if_told`.
+    pub fn replace_if_told<R: Wait>(
+        &mut self,
+        rt: &R,
+        key: Key,
+        old: &V,
+        new: V,
+    ) -> Result<Replaced<V>, LongFault<V>>
+    where
+        V: PartialEq,
         ensures wrote { HasReplacedIf V.eq self.old.map key old.now new self.old.seat self.new.seat
-            result }
+            (found_in result) (stored_in result) }
         ensures rest { KeepsRest self.old self.new }
     {
         self.map.known();
-        by_handle(&self.store).replace_if(rt, &mut self.map, key, old, new)
+        by_handle(&self.store).replace_if_told(rt, &mut self.map, key, old, new)
     }
 
     /// Takes out a key, and answers the number that was there: `LongMap::remove`.

@@ -11,7 +11,7 @@ mod new_store;
 mod store;
 
 pub use handle::Handle;
-pub use map::{Compared, LongFault, LongMap, Stored, Unshown, UpdateFault, Updated};
+pub use map::{Compared, LongFault, LongMap, Replaced, Stored, Unshown, UpdateFault, Updated};
 pub use nb_map::{RenewFault, SettleFault, SplitFault};
 pub use new_store::{Carried, RenewStoreFault, Renewed};
 pub use store::{Found, Placed, Receipt, Store, StoreFault};

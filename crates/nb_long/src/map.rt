@@ -10,7 +10,7 @@ ghost use Rattle.nb_map.specs.NamedCalls.{remove_of};
 ghost use Rattle.nb_map.specs.Progress.{Unlimited};
 ghost use Rattle.nb_map.specs.Promises.{HasMet, HasWritten};
 ghost use Rattle.nb_map.specs.Promises as outcome;
-ghost use Rattle.nb_long.specs.Promises.{HasChangedIf, HasGotValue, HasPutValue, HasReplacedIf, with_token};
+ghost use Rattle.nb_long.specs.Promises.{HasChangedIf, HasGotValue, HasPutValue, HasReplacedIf, found_in, stored_in, with_token};
 
 mod fullness;
 mod listing;
@@ -54,8 +54,15 @@ pub struct Stored<V> {
     pub done: bool,
     /// What reads the value, written or not, for as long as the store lasts.
     pub receipt: Receipt<V>,
-    /// What reads the value that the key had before, if it was compared with another.
-    pub compared: Option<Receipt<V>>,
+}
+
+/// What a write came to that is made where the key has an equal value.
+#[derive(Drop)]
+pub struct Replaced<V> {
+    /// What `replace_if` answers.
+    pub stored: Stored<V>,
+    /// What reads the value that the key had at last, which was compared; none where it had none.
+    pub found: Option<Receipt<V>>,
 }
 
 /// What a change came to that is made where the key has an equal value.
@@ -166,7 +173,7 @@ impl<V: Drop> LongMap<V> {
 
     /// Stores a value and puts its number where the key has a value equal to `old`.
     /// `ConcurrentMap.replace` of three arguments, by `V`'s equality. As `put` else, but it is
-    /// never full. `compared` reads the value that `old` was compared with at last.
+    /// never full.
     ///
     /// It reads the key's number, compares, and writes if the number is still there; else it begins
     /// again, as it does, too, where another seat put an equal value meanwhile. It is lock-free:
@@ -183,9 +190,29 @@ impl<V: Drop> LongMap<V> {
     where
         V: PartialEq,
         requires own { IsMine self.now.map seat.old }
-        ensures { HasReplacedIf V.eq self.now key old.now new seat.old seat.new result }
+        ensures { (found : Option (Where _)) × HasReplacedIf V.eq self.now key old.now new
+            seat.old seat.new found result }
     {
-        self.parts().replace_if(rt, seat, key, old, new)
+        let replaced = self.replace_if_told(rt, seat, key, old, new)?;
+        Ok(replaced.stored)
+    }
+
+    /// The same, and answers what reads the value that was compared, too.
+    pub fn replace_if_told<R: Wait>(
+        &self,
+        rt: &R,
+        seat: &mut Seat,
+        key: Key,
+        old: &V,
+        new: V,
+    ) -> Result<Replaced<V>, LongFault<V>>
+    where
+        V: PartialEq,
+        requires own { IsMine self.now.map seat.old }
+        ensures { HasReplacedIf V.eq self.now key old.now new seat.old seat.new (found_in result)
+            (stored_in result) }
+    {
+        self.parts().replace_if_told(rt, seat, key, old, new)
     }
 }
 

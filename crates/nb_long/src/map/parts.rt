@@ -4,11 +4,11 @@ ghost use Rattle.nb_core.specs.declared.calls.Change.TheVariants as change;
 ghost use Rattle.nb_core.specs.declared.calls.Want.TheVariants as want;
 ghost use Rattle.nb_map.specs.NamedCalls.{change_to};
 ghost use Rattle.nb_long.specs.Numbers.{HasCalledOver, IsSeated};
-ghost use Rattle.nb_long.specs.Promises.{HasChangedIf, HasGotValue, HasMadeRound, HasPutValue, HasReplacedIf};
+ghost use Rattle.nb_long.specs.Promises.{HasChangedIf, HasGotValue, HasMadeRound, HasPutValue, HasReplacedIf, found_in, stored_in};
 ghost use Rattle.nb_long.specs.Typed.{number_of};
 
 use crate::map::numbers::Numbers;
-use crate::map::{Compared, LongFault, Stored, Unshown};
+use crate::map::{Compared, LongFault, Replaced, Stored, Unshown};
 use crate::store::{Found, Receipt, Store};
 use nb_core::{Key, Num};
 use nb_map::{Full, PutFault};
@@ -42,7 +42,6 @@ impl<M: Numbers, V: Drop> Parts<'_, M, V> {
                 before,
                 done: true,
                 receipt,
-                compared: None,
             }),
             Err(Full) => Err(LongFault::Full(receipt)),
         }
@@ -67,7 +66,6 @@ impl<M: Numbers, V: Drop> Parts<'_, M, V> {
                 before,
                 done: before.is_none(),
                 receipt,
-                compared: None,
             }),
             Err(Full) => Err(LongFault::Full(receipt)),
         }
@@ -92,35 +90,38 @@ impl<M: Numbers, V: Drop> Parts<'_, M, V> {
             before,
             done: before.is_some(),
             receipt,
-            compared: None,
         })
     }
 
-    /// `LongMap::replace_if`.
-    pub(crate) fn replace_if<R: Wait>(
+    /// `LongMap::replace_if_told`.
+    pub(crate) fn replace_if_told<R: Wait>(
         &self,
         rt: &R,
         caller: &mut M::Caller,
         key: Key,
         old: &V,
         new: V,
-    ) -> Result<Stored<V>, LongFault<V>>
+    ) -> Result<Replaced<V>, LongFault<V>>
     where
         V: PartialEq,
         requires own { IsSeated (M.handle self.now.map.now caller.old) }
         ensures { HasCalledOver self.now.store.now
-            (λ m before after. HasReplacedIf V.eq m key old.now new before after result)
+            (λ m before after. HasReplacedIf V.eq m key old.now new before after (found_in result)
+            (stored_in result))
             (M.handle self.now.map.now caller.old) (M.handle self.now.map.now caller.new) }
     {
         let receipt = self.store.push(rt, new)?;
         let number = Some(receipt.number());
         match self.change_if(rt, caller, key, old, &number) {
-            Ok(Compared { found, done }) => Ok(Stored {
-                before: number_in(&found),
-                done,
-                receipt,
-                compared: found,
-            }),
+            Ok(Compared { found, done }) => {
+                let before = number_in(&found);
+                let stored = Stored {
+                    before,
+                    done,
+                    receipt,
+                };
+                Ok(Replaced { stored, found })
+            }
             Err(Unshown) => Err(LongFault::Unshown(receipt)),
         }
     }

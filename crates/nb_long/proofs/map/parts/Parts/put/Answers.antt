@@ -1,4 +1,4 @@
-use Rattle.std.proofs.Common.{None, refl, true}
+use Rattle.std.proofs.Common.{refl, true}
 use Rattle.nb_core.specs.declared.calls.Want.TheVariants as want
 use Rattle.nb_long.specs.declared.map.Stored.{Stored}
 use Rattle.nb_long.proofs.Written.{put-value}
@@ -10,10 +10,9 @@ returns-in-Ok g c =
       before = c.in-Ok.before;
       done = true;
       receipt = c.in_ok-receipt.receipt;
-      compared = None;
     } in
     record {
       done = put-value _ c.args.key want.Any c.args.value stored c.number.result c.number.ensures
-          c.in_ok-receipt.ensures.stored refl refl c.in-Ok.ensures.done;
+          c.in_ok-receipt.ensures.stored refl c.in-Ok.ensures.done;
       rest = c.in-Ok.ensures.rest;
     }

@@ -1,4 +1,4 @@
-use Rattle.std.proofs.Common.{None, refl}
+use Rattle.std.proofs.Common.{refl}
 use Rattle.nb_core.specs.declared.calls.Want.TheVariants as want
 use Rattle.nb_long.specs.declared.map.Stored.{Stored}
 use Rattle.nb_long.proofs.Written.{is-new, put-value}
@@ -10,11 +10,10 @@ returns-in-Ok g c =
       before = c.in-Ok.before;
       done = c.is_none.result;
       receipt = c.in_ok-receipt.receipt;
-      compared = None;
     } in
     record {
       done = put-value _ c.args.key want.Absent c.args.value stored c.number.result
           c.number.ensures c.in_ok-receipt.ensures.stored
-          (is-new c.in-Ok.before c.is_none.result c.is_none.ensures) refl c.in-Ok.ensures.done;
+          (is-new c.in-Ok.before c.is_none.result c.is_none.ensures) c.in-Ok.ensures.done;
       rest = c.in-Ok.ensures.rest;
     }

@@ -1,7 +1,7 @@
 use Rattle.std.proofs.Common.{refl, rules}
 use Rattle.nb_long.proofs.Rounds.{free-none}
 use Rattle.nb_long.specs.Typed.{LongMapOf}
-use Rattle.nb_long.proofs.map.parts.Parts.replace_if.Goals as goal
+use Rattle.nb_long.proofs.map.parts.Parts.replace_if_told.Goals as goal
 
 pub returns-in_err-receipt : goal.returns-in_err-receipt
 returns-in_err-receipt g c =
