@@ -26,6 +26,8 @@ pub(super) enum Call {
     Replace(u64, u64, bool),
     /// The second value is put if the key has the first one. Whether it had.
     ReplaceIf(u64, u64, u64, bool),
+    /// The same, by `replace_if_told`, of a key that is there.
+    ReplaceIfTold(u64, u64, u64, bool),
     /// A function makes one more of the key's value, where it is to grow, and else none. Whether it
     /// had one.
     Update(u64, bool, bool),
@@ -87,6 +89,12 @@ fn writes<R: Wait + Abort>(rt: &R, handle: &mut Handle<u64>, call: Call) -> bool
         ReplaceIf(k, old, new, done) => {
             let end = handle.replace_if(rt, key(rt, k), &old, new);
             is_written(rt, end, new, Some(done))
+        }
+        ReplaceIfTold(k, old, new, done) => {
+            match handle.replace_if_told(rt, key(rt, k), &old, new) {
+                Ok(replaced) => replaced.stored.done == done && replaced.found.is_some(),
+                Err(_) => false,
+            }
         }
         Update(k, true, was) => is_updated(rt, handle.update(rt, key(rt, k), one_more), was, true),
         Update(k, false, was) => is_updated(rt, handle.update(rt, key(rt, k), nothing), was, false),

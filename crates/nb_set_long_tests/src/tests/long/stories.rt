@@ -143,10 +143,12 @@ const COMES_FIRST: [Call; 3] = [Seats(2), Value(7, None), PutIfAbsent(7, 5, true
 
 /// The calls of another one. A value that isn't the one to compare with stays, an equal one goes,
 /// and then there is none to compare.
-const COMPARES: [Call; 11] = [
+const COMPARES: [Call; 13] = [
     PutIfAbsent(7, 8, false),
     ReplaceIf(7, 8, 9, false),
     ReplaceIf(7, 5, 6, true),
+    ReplaceIfTold(7, 5, 9, false),
+    ReplaceIfTold(7, 6, 6, true),
     RemoveIf(7, 5, false),
     TakeIf(7, 5, false),
     Value(7, Some(6)),

@@ -32,6 +32,8 @@ enum Call {
     Write(Want, &'static [u8]),
     /// This value is put, for which there is no room.
     Refuse(&'static [u8]),
+    /// The second value is put if the key has the first one, by `replace_if_told`.
+    ReplaceIfTold(&'static [u8], &'static [u8]),
     Remove,
     RemoveIf(&'static [u8]),
     TakeIf(&'static [u8]),
@@ -44,11 +46,12 @@ type Row = (u64, Call, bool, Option<&'static [u8]>);
 
 /// One key's values come and go. Then four keys fill the table, a fifth one finds no room, and two
 /// are taken out.
-const TYPED_VALUES: [Row; 15] = [
-    (1, Write(Absent, b"zz"), false, Some(b"ab")),
+const TYPED_VALUES: [Row; 16] = [
     (1, Write(Present, b"cd"), true, Some(b"cd")),
     (1, Write(Is(b"ab"), b"x"), false, Some(b"cd")),
     (1, Write(Is(b"cd"), b"ef"), true, Some(b"ef")),
+    (1, ReplaceIfTold(b"cd", b"x"), false, Some(b"ef")),
+    (1, ReplaceIfTold(b"ef", b"ef"), true, Some(b"ef")),
     (1, TakeIf(b"cd"), false, Some(b"ef")),
     (1, RemoveIf(b"cd"), false, Some(b"ef")),
     (1, RemoveIf(b"ef"), true, None),
@@ -215,6 +218,31 @@ fn takes_if<R: Wait + Abort>(
     compared.done
 }
 
+/// Asks for a value in place of an equal one. What the key has is read by the token of what was
+/// compared, and the value that was to come by its receipt.
+fn replaces_if<R: Wait + Abort>(
+    rt: &R,
+    map: &LongMap<Bytes>,
+    seat: &mut Seat,
+    k: u64,
+    old: &Bytes,
+    new: Bytes,
+) -> bool
+    requires own { IsMine map.now.map seat.old }
+    ensures own { IsMine map.now.map seat.new }
+{
+    let Ok(replaced) = map.replace_if_told(rt, seat, key(rt, k), old, new) else {
+        panic!(rt; "there is room")
+    };
+    let Some(found) = &replaced.found else {
+        panic!(rt; "the key is there")
+    };
+    let Stored { before, done, .. } = &replaced.stored;
+    assert!(rt; *before == Some(found.number()));
+    assert!(rt; *done == reads(map, found, old.as_slice()));
+    *done
+}
+
 /// What a function makes of a value that is to go.
 fn nothing(_was: Option<&Bytes>) -> Option<Bytes> {
     None
@@ -253,7 +281,14 @@ fn makes<R: Wait + Abort>(
             false
         }
         Remove => map.remove(rt, seat, key(rt, k)).is_some(),
-        RemoveIf(old) => map.remove_if(rt, seat, key(rt, k), &bytes(rt, alloc, old)) == Ok(true),
+        ReplaceIfTold(old, new) => {
+            let (old, new) = (bytes(rt, alloc, old), bytes(rt, alloc, new));
+            replaces_if(rt, map, seat, k, &old, new)
+        }
+        RemoveIf(old) => {
+            let removed = map.remove_if(rt, seat, key(rt, k), &bytes(rt, alloc, old));
+            removed.expect(rt, "each number is shown")
+        }
         TakeIf(old) => takes_if(rt, map, seat, k, &bytes(rt, alloc, old)),
         Update => updates(rt, map, seat, k),
     }
@@ -271,13 +306,34 @@ fn sees<R: Wait + Abort>(rt: &R, alloc: Global, map: &LongMap<Bytes>, seat: &mut
     }
 }
 
-/// The value `ab` is put first, and is read by its receipt after all other calls.
+/// Whether key 1 shows what a receipt reads.
+fn is_shown<R: Abort>(
+    rt: &R,
+    map: &LongMap<Bytes>,
+    seat: &mut Seat,
+    receipt: &Receipt<Bytes>,
+) -> bool
+    requires own { IsMine map.now.map seat.old }
+    requires shown { Shows map.now.store receipt.now }
+    ensures own { IsMine map.now.map seat.new }
+{
+    match found(rt, map, seat, 1) {
+        Some(found) => map.store().agree(receipt, &found),
+        None => false,
+    }
+}
+
+/// The value `ab` is put first, where there is none, and is what the key shows. Another one finds
+/// its number there, and isn't put. It is read by its receipt after all other calls.
 fn shows_first<R: Wait + Abort>(rt: &R, alloc: Global, map: &LongMap<Bytes>, seat: &mut Seat)
     requires own { IsMine map.now.map seat.old }
     ensures own { IsMine map.now.map seat.new }
 {
     let first = writes(rt, alloc, map, seat, 1, Any, b"ab");
-    assert!(rt; first.done);
+    assert!(rt; first.before.is_none() && first.done);
+    assert!(rt; is_shown(rt, map, seat, &first.receipt));
+    let second = writes(rt, alloc, map, seat, 1, Absent, b"zz");
+    assert!(rt; second.before == Some(first.receipt.number()) && !second.done);
     assert!(rt; has(rt, map, seat, 1, Some(b"ab")));
     sees(rt, alloc, map, seat, &TYPED_VALUES);
     assert!(rt; reads(map, &first.receipt, b"ab"));
