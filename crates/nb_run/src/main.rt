@@ -3,8 +3,8 @@
 #![tactic(auto)]
 
 pub use nb_runner::{
-    Failed, FromRead, FromWrite, Gate, Open, OptionFault, Options, RunFault, Sink, Source, answers,
-    gates, process, progress, read_options, run, run_gated, running, serve, serving,
+    Cause, Failed, FromRead, FromWrite, Gate, Open, OptionFault, Options, RunFault, Sink, Source,
+    answers, gates, process, progress, read_options, run, run_gated, running, serve, serving,
 };
 use std::io::IsTerminal;
 use std::process::ExitCode;

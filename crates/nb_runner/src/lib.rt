@@ -15,6 +15,7 @@ pub(crate) mod workers;
 pub use gates::{Gate, Open};
 pub use nb_script::faults::RunFault;
 pub use nb_script::options::{OptionFault, Options, read_options};
+pub use nb_script::script::Cause;
 pub use nb_script::streams::{Failed, FromRead, FromWrite, Sink, Source};
 pub use running::{run, run_gated};
 pub use serving::serve;

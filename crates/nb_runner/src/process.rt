@@ -11,9 +11,9 @@ ghost use Rattle.nb_runner.specs.Serving.{
   words_had,
 };
 
-use crate::gates::Gate;
+use crate::gates::{Gate, Open};
 use crate::progress::{Progress, Watched};
-use crate::serving::serve_gated;
+use crate::serving::{serve, serve_gated};
 use nb_script::options::OptionFault;
 use nb_script::streams::{FromRead, FromWrite, Sink, Source};
 use std::env;
@@ -98,20 +98,19 @@ where
     let mut reader = FromRead::new(Watched::new(&progress, input));
     let mut writer = FromWrite::new(Watched::new(&progress, output));
     let mut errors = FromWrite::new(Watched::new(&progress, errors));
-    serve_words(
-        process,
-        &progress,
-        words,
-        &mut reader,
-        &mut writer,
-        &mut errors,
-    )
+    let gate = if tells_progress {
+        Some(&progress)
+    } else {
+        None
+    };
+    serve_words(process, gate, words, &mut reader, &mut writer, &mut errors)
 }
 
-/// Does what `serve_gated` does, for words that it owns.
+/// Does what `serve` does, for words that it owns and may lack. Where there is a gate, commands go by
+/// it.
 fn serve_words<H: Threads + Wait + AllocGlobal + Sync, G: Gate + Sync, R: Source, W: Sink, E: Sink>(
     rt: &H,
-    gate: &G,
+    gate: Option<&G>,
     words: Result<Vec<String>, OptionFault>,
     reader: &mut R,
     writer: &mut W,
@@ -136,8 +135,11 @@ fn serve_words<H: Threads + Wait + AllocGlobal + Sync, G: Gate + Sync, R: Source
 
     ensures silent { result ≢ 0 → W.failed writer.new ≡ false → writer.new ≡ writer.old }
 {
-    match words {
-        Ok(words) => serve_gated(rt, gate, Ok(words.as_slice()), reader, writer, errors),
-        Err(fault) => serve_gated(rt, gate, Err(fault), reader, writer, errors),
+    match (words, gate) {
+        (Ok(words), None) => serve(rt, words.as_slice(), reader, writer, errors),
+        (Ok(words), Some(gate)) => {
+            serve_gated(rt, gate, Ok(words.as_slice()), reader, writer, errors)
+        }
+        (Err(fault), _) => serve_gated(rt, &Open, Err(fault), reader, writer, errors),
     }
 }
