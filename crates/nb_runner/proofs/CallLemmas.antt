@@ -88,6 +88,17 @@ log-begins {x} begun = record {
 abbrev pub IsSeenBy : List Entry → SeatOf → Type 0
 IsSeenBy whole seat = IsBeginning (log seat) whole
 
+-- what the seat has seen is a beginning of this
+abbrev pub IsHeardBy : List Event → SeatOf → Type 0
+IsHeardBy whole seat = IsBeginning seat.chain.seen whole
+
+-- so is its log
+pub heard-seen :
+    (whole : List Event) (seats : List SeatOf) → All (IsHeardBy whole) seats
+    → All (IsSeenBy (log_of whole)) seats
+heard-seen whole =
+    All-weaker (IsHeardBy whole) (IsSeenBy (log_of whole)) (λ seat begun. log-begins begun)
+
 -- The longest of this and the logs of all these seats.
 pub record Longest (base : List Entry) (seats : List SeatOf) : Type 0 where
   pub whole : List Entry

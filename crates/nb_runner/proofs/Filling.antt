@@ -1,12 +1,12 @@
 -- What the seats of a run have claimed: keys that their commands may put, so that a full map has as
 -- many of these.
-use Rattle.std.proofs.Common.{◌≡◌, ◌∙◌, ◌==◌, not, Bool, true, false, cond, ℕ, suc, List, [], ◌∷◌, ◌++◌, map, filter, ap, sym, subst, refl, inl, inr}
+use Rattle.std.proofs.Common.{◌≡◌, ◌≢◌, ◌∙◌, ◌==◌, not, Bool, true, false, cond, ℕ, suc, List, [], ◌∷◌, ◌++◌, map, filter, ap, sym, subst, refl, inl, inr}
 use Rattle.std.specs.List.{All, AllZip}
 use Rattle.std.specs.Set.{distinct_count}
-use Rattle.std.proofs.lemmas.Bool.{eq-eqb}
+use Rattle.std.proofs.lemmas.Bool.{cases_Bool, eq-eqb, eqb-true, ne_eqb}
 use Rattle.std.proofs.lemmas.List.{append-nil, map-append}
 use Rattle.std.proofs.lemmas.List.Elements.{All-cons, All-head, All-nil, All-tail, All-weaker, filter-append}
-use Rattle.nb_core.proofs.Seating.{All-left, All-numbered, All-right}
+use Rattle.nb_core.proofs.Seating.{All-numbered}
 use Rattle.nb_core.specs.History.{key_of_call}
 use Rattle.nb_core.specs.Plans.{IsPlan, Plan}
 use Rattle.nb_core.specs.declared.calls.Call.{Call}
@@ -16,8 +16,8 @@ use Rattle.nb_map.specs.Crowding.{HasAskedFor, IsFilled, fills, others_filled}
 use Rattle.nb_map.specs.Maps.{MapOf, SeatOf, new_seat, new_seats}
 use Rattle.nb_script.specs.Script.{Phase}
 use Rattle.nb_runner.specs.Text.{call_of}
-use Rattle.nb_runner.specs.Told.{all_commands, key_of_command}
-use Rattle.nb_runner.specs.Working.{AreAnswered, HasMetAll, HasRunCommand, HaveRun, PhaseRan, commands_of}
+use Rattle.nb_runner.specs.Told.{key_of_command}
+use Rattle.nb_runner.specs.Working.{AreAnswered, HasMetAll, HasRunCommand, PhaseRan, commands_but, commands_of}
 use Rattle.nb_runner.specs.declared.answers.Answer.{Answer}
 use Rattle.nb_script.specs.declared.script.Command.{Command}
 
@@ -81,6 +81,57 @@ among-all (c ∷ cs) =
     (λ d. fills (call_of d) ≡ true → IsPut (c ∷ cs) (key_of_command d))
     (λ d put may. inr (put may)) cs (among-all cs))
 
+-- and of one worker's, among those of all but another
+pub among-but :
+    (w v : ℕ) → v ≢ w → (phase : Phase) → AreAmong (commands_but w phase) (commands_of v phase)
+among-but w v differs [] = All-nil (λ (c : Command). fills (call_of c) ≡ true → ⊥)
+among-but w v differs (task ∷ phase) =
+    elim (cases_Bool (task.0 == v)) [
+      | inl mine ↦ mine-of (task.0 == v) (task.0 == w) mine
+          (ne_eqb task.0 w (λ same. differs (sym (eqb-true task.0 v mine) ∙ same)))
+          (among-but w v differs phase)
+      | inr other ↦ other-of (task.0 == v) (task.0 == w) other (among-but w v differs phase)
+    ]
+  where
+    Q : List Command → Command → Type 0
+    Q all c = fills (call_of c) ≡ true → IsPut all (key_of_command c)
+
+    rest : List Command
+    rest = commands_but w phase
+
+    own : List Command
+    own = commands_of v phase
+
+    all : Bool → List Command
+    all b = map (λ task. task.1) (cond (not b) (task ∷ filter (λ task. not (task.0 == w)) phase)
+        (filter (λ task. not (task.0 == w)) phase))
+
+    chosen : Bool → List Command
+    chosen b = map (λ task. task.1) (cond b (task ∷ filter (λ task. task.0 == v) phase)
+        (filter (λ task. task.0 == v) phase))
+
+    later : AreAmong rest own → All (Q (task.1 ∷ rest)) own
+    later = All-weaker (Q rest) (Q (task.1 ∷ rest)) (λ c put may. inr (put may)) own
+
+    mine-of :
+        (a b : Bool) → a ≡ true → b ≡ false → AreAmong rest own → All (Q (all b)) (chosen a)
+    mine-of true false is other among = All-cons (Q (task.1 ∷ rest)) task.1 own
+        (λ may. inl (may, refl)) (later among)
+    mine-of true true is other among = absurd cc
+    mine-of false b is other among = absurd cc
+
+    other-of : (a b : Bool) → a ≡ false → AreAmong rest own → All (Q (all b)) (chosen a)
+    other-of true b is among = absurd cc
+    other-of false true is among = among
+    other-of false false is among = later among
+
+-- and among more
+pub among-right : (more all cs : List Command) → AreAmong all cs → AreAmong (more ++ all) cs
+among-right more all cs =
+    All-weaker (λ c. fills (call_of c) ≡ true → IsPut all (key_of_command c))
+    (λ c. fills (call_of c) ≡ true → IsPut (more ++ all) (key_of_command c))
+    (λ c put may. put-right more all (key_of_command c) (put may)) cs
+
 -- what holds of all of a phase's commands holds of one worker's
 all-of-worker :
     (P : Command → Type 0) (w : ℕ) (phase : Phase) → All P (map (λ task. task.1) phase)
@@ -121,7 +172,7 @@ module _ (m : MapOf) (plan : IsPlan m.chain.shape) where
     Claimed seat = HasClaimed p cs seat.chain
 
     -- some commands were answered
-    claimed-commands :
+    pub claimed-commands :
         (commands : List Command) (answers : List Answer) (before after : SeatOf)
         → AreAmong cs commands
         → AreAnswered m commands answers before after → Claimed before → Claimed after
@@ -138,7 +189,7 @@ module _ (m : MapOf) (plan : IsPlan m.chain.shape) where
         claimed)
 
     -- the workers ran a phase
-    claimed-phase :
+    pub claimed-phase :
         (phase : Phase) (w : ℕ) (answers : List (List Answer)) (before after : List SeatOf)
         → AreAmong cs (map (λ task. task.1) phase)
         → PhaseRan m phase w answers before after → All Claimed before → All Claimed after
@@ -154,7 +205,7 @@ module _ (m : MapOf) (plan : IsPlan m.chain.shape) where
     claimed-phase phase w _ _ _ among ran all = absurd ran
 
     -- every two seats met
-    claimed-meeting : (seats before after : List SeatOf) → AllZip (HasMetAll m seats) before after
+    pub claimed-meeting : (seats before after : List SeatOf) → AllZip (HasMetAll m seats) before after
         → All Claimed before → All Claimed after
     claimed-meeting seats [] [] met all = All-nil Claimed
     claimed-meeting seats [] (t ∷ after) met all = absurd met
@@ -162,24 +213,6 @@ module _ (m : MapOf) (plan : IsPlan m.chain.shape) where
     claimed-meeting seats (s ∷ before) (t ∷ after) met all =
         All-cons Claimed t after (claimed-met cs seats s t met.0 (All-head Claimed s before all))
         (claimed-meeting seats before after met.1 (All-tail Claimed s before all))
-
-    -- the phases ran
-    pub claimed-run :
-        (phases : List Phase) (answers : List (List (List Answer))) (before after : List SeatOf)
-        → AreAmong cs (all_commands phases)
-        → HaveRun m phases answers before after → All Claimed before → All Claimed after
-    claimed-run [] [] before after among ran all = subst (All Claimed) (sym ran) all
-    claimed-run [] (first ∷ answers) before after among ran all = absurd ran
-    claimed-run (phase ∷ phases) [] before after among ran all = absurd ran
-    claimed-run (phase ∷ phases) (first ∷ answers) before after among ran all =
-        claimed-run phases answers ran.1 after
-        (All-right Q (map (λ task. task.1) phase) (all_commands phases) among) ran.4
-        (claimed-meeting ran.0 ran.0 ran.1 ran.3
-        (claimed-phase phase 0 first before ran.0
-        (All-left Q (map (λ task. task.1) phase) (all_commands phases) among) ran.2 all))
-      where
-        Q : Command → Type 0
-        Q c = fills (call_of c) ≡ true → IsPut cs (key_of_command c)
 
     -- new seats have claimed nothing
     pub claimed-new : (count : ℕ) → All Claimed (new_seats m count)

@@ -1,22 +1,16 @@
--- When a map can be full: for any number of workers at the end, and for one at each of its
--- commands.
-use Rattle.std.proofs.Common.{◌≡◌, ◌≢◌, ◌∙◌, ◌==◌, ◌≤◌, ◌<◌, ◌-◌, not, cond, ℕ, zero, suc, List, [], ◌∷◌, ◌++◌, Some, length, map, take, ap, sym, subst, refl, inl, inr, append_assoc, append-nil, arith}
+-- When a map can be full, for one worker at each of its commands.
+use Rattle.std.proofs.Common.{◌≡◌, ◌≢◌, ◌∙◌, ◌≤◌, ◌<◌, ◌-◌, not, ℕ, zero, suc, List, [], ◌∷◌, ◌++◌, Some, map, take, ap, sym, subst, refl, inl, append_assoc, append-nil, arith}
 use Rattle.std.specs.Prelude.{slice_get}
-use Rattle.std.specs.List.{All, count_by, flat_map}
-use Rattle.std.proofs.lemmas.Bool.{cases_Bool, eq-eqb, eqb-true}
+use Rattle.std.specs.List.{All, flat_map}
+use Rattle.std.proofs.lemmas.Bool.{eq-eqb}
 use Rattle.std.proofs.lemmas.List.Elements.{All-head, All-nil, All-tail}
-use Rattle.std.proofs.lemmas.List.Sums.{sum_by-cons}
-use Rattle.nb_core.specs.History.{IsLegal, seat_of_event}
-use Rattle.nb_core.specs.Meaning.{IsCrowded}
+use Rattle.nb_core.specs.History.{seat_of_event}
 use Rattle.nb_core.specs.Plans.{IsPlan, Plan, generations_of, size_of}
 use Rattle.nb_core.specs.declared.events.Event.{Event}
 use Rattle.nb_table.specs.Chains.{SeenBy}
-use Rattle.nb_core.specs.Log.{IsBeginning}
-use Rattle.nb_table.specs.Views.{HasSeen}
 use Rattle.nb_map.proofs.Theorems.{crowded_by_calls}
 use Rattle.nb_map.specs.Crowding.{HasAskedIn, others_filled}
-use Rattle.nb_map.specs.Ending.{EndedOf, EndedWith, HasTablesLeft}
-use Rattle.nb_map.specs.Maps.{MapOf, SeatOf, new_seat, new_seats}
+use Rattle.nb_map.specs.Maps.{MapOf, SeatOf, new_seat}
 use Rattle.std.proofs.lemmas.List.{map-append}
 use Rattle.nb_script.specs.Script.{Phase}
 use Rattle.nb_runner.specs.Text.{call_of}
@@ -25,7 +19,7 @@ use Rattle.nb_runner.specs.Working.{AreAnswered, HasMetAll, HasRunCommand, HaveM
 use Rattle.nb_runner.specs.declared.answers.Answer.{Answer}
 use Rattle.nb_runner.specs.declared.answers.Answer.TheVariants as answer
 use Rattle.nb_script.specs.declared.script.Command.{Command}
-use Rattle.nb_runner.proofs.Filling.{HasClaimed, among-all, claimed-answered, claimed-met, claimed-new, claimed-run, others-same, put-left, put-right}
+use Rattle.nb_runner.proofs.Filling.{HasClaimed, claimed-answered, claimed-met, claimed-new, others-same, put-left, put-right}
 
 -- ---- words
 
@@ -100,64 +94,6 @@ commands-lone (phase ∷ phases) below =
     (commands-first phase (All-head P phase phases below))
     ∙ ap (λ cs. map (λ task. task.1) phase ++ cs)
     (commands-lone phases (All-tail P phase phases below))
-
--- ---- at the end
-
--- a seat with this number is one of these, and what holds of all holds of it
-seat-numbered :
-    (P : SeatOf → Type 0) (n : ℕ) (seats : List SeatOf)
-    → count_by (λ seat. seat.chain.number == n) seats ≡ 1 → All P seats
-    → (seat : SeatOf) × (seat.chain.number ≡ n) × P seat
-seat-numbered P n [] once all = absurd (omega (arith, once))
-seat-numbered P n (seat ∷ seats) once all =
-    elim (cases_Bool (seat.chain.number == n)) [
-      | inl mine ↦ (seat, eqb-true seat.chain.number n mine, All-head P seat seats all)
-      | inr other ↦
-          let first = sum_by-cons (λ (s : SeatOf). cond (s.chain.number == n) 1 0) seat seats in
-          let none = ap {B = ℕ} (λ b. cond b 1 0) other in
-          seat-numbered P n seats (omega (arith, once, first, none)) (All-tail P seat seats all)
-    ]
-
--- A key is crowded at a moment of an ended map's history only by as many others as the commands may
--- put.
-pub crowd-ended :
-    (m : MapOf) → IsPlan m.chain.shape → (phases : List Phase) (answers : List (List (List Answer)))
-    (after : List SeatOf) (ended : EndedOf)
-    → HaveRun m phases answers (new_seats m m.chain.shape.seats) after
-    → length after ≡ m.chain.shape.seats → EndedWith after ended
-    → HasTablesLeft m.chain.shape after ended → (k : ℕ) (h : List Event)
-    → IsBeginning h ended.tables.history → IsCrowded m.chain.shape h k
-    → size_of m.chain.shape (generations_of m.chain.shape - 1)
-    ≤ others_filled k (map call_of (all_commands phases))
-crowd-ended m plan phases answers after ended ran count end left k h beginning crowded =
-    crowded_by_calls p plan (map call_of cs) history
-    (subst (λ q. IsLegal q history) left.shape left.left.legal) asked h beginning k crowded
-  where
-    p : Plan
-    p = m.chain.shape
-
-    cs : List Command
-    cs = all_commands phases
-
-    history : List Event
-    history = ended.tables.history
-
-    claimed : All (λ seat. HasClaimed p cs seat.chain) after
-    claimed = claimed-run m plan cs phases answers (new_seats m p.seats) after (among-all cs) ran
-        (claimed-new m plan cs p.seats)
-
-    asked : (n : ℕ) → n < p.seats → HasAskedIn p (map call_of cs) history n
-    asked n less =
-        let found = seat-numbered (λ seat. HasSeen history seat.chain.number seat.chain.seen
-        × HasClaimed p cs seat.chain) n after
-        (end.once n (omega (arith, less, count)))
-        (λ i d within. (left.seen i d within, claimed i d within)) in
-        record {
-          seat = found.0.chain;
-          number = found.1;
-          asked = found.2.1;
-          seen = subst (λ s. HasSeen history s found.0.chain.seen) found.1 found.2.0;
-        }
 
 -- ---- one worker
 

@@ -1,5 +1,6 @@
 mod Answering
 mod CallLemmas
+mod Claims
 mod Filling
 mod Fullness
 mod LoneText

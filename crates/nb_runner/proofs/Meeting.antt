@@ -7,27 +7,28 @@ use Rattle.std.specs.Vec.{with_items}
 use Rattle.std.specs.declared.alloc.Global.{Global}
 use Rattle.std.specs.declared.vec.Vec.{Vec}
 use Rattle.nb_map.proofs.Theorems.{logs_add_up}
-use Rattle.nb_map.specs.Logs.{HasLogged, log}
+use Rattle.nb_map.specs.Logs.{HasLogged}
 use Rattle.nb_map.specs.Maps.{IsMine, MapOf, SeatOf}
 use Rattle.nb_table.specs.Chains.{Extended}
 use Rattle.nb_table.proofs.Theorems.{steps_add_up}
-use Rattle.nb_core.specs.Log.{Entry, IsBeginning}
+use Rattle.nb_core.specs.Log.{IsBeginning}
+use Rattle.nb_core.specs.declared.events.Event.{Event}
 use Rattle.nb_runner.specs.Working.{HasMetAll, HasMetAs, worker_seats}
 use Rattle.nb_runner.specs.declared.workers.Worker.{Worker}
-use Rattle.nb_runner.proofs.CallLemmas.{IsSeenBy, beginning-logged, beginning-more}
+use Rattle.nb_runner.proofs.CallLemmas.{IsHeardBy, beginning-grown, beginning-more}
 use Rattle.nb_runner.proofs.Together.{all-zip-push, all-zip-then}
 
 -- what a seat has of a meeting with another one
 abbrev pub Meets : MapOf → (other before after : SeatOf) → Type 0
 Meets m other before after =
-    HasLogged before after [] × IsBeginning (log other) (log after)
+    HasLogged before after [] × IsBeginning other.chain.seen after.chain.seen
     × Extended m.chain.shape before.chain after.chain [] 1 × (after.count ≡ before.count)
 
 -- who has seen more has heard of the same seats
 later-heard :
-    (h h' : List Entry) → IsBeginning h h' → (seats : List SeatOf) → All (IsSeenBy h) seats
-    → All (IsSeenBy h') seats
-later-heard h h' begun = All-weaker (IsSeenBy h) (IsSeenBy h') (λ seat b. beginning-more b begun)
+    (h h' : List Event) → IsBeginning h h' → (seats : List SeatOf) → All (IsHeardBy h) seats
+    → All (IsHeardBy h') seats
+later-heard h h' begun = All-weaker (IsHeardBy h) (IsHeardBy h') (λ seat b. beginning-more b begun)
 
 -- lists with the same rest have the same element in front of it, and the same rest behind that
 pub same-at :
@@ -55,7 +56,7 @@ module _ (m : MapOf) where
   pub met-none : (seat : SeatOf) → IsMine m seat → HasMetAll m [] seat seat
   met-none seat mine = record {
     logged = logs_add_up.none mine;
-    heard = All-nil (IsSeenBy (log seat));
+    heard = All-nil (IsHeardBy seat.chain.seen);
     steps = 0;
     grown = steps_add_up.none mine.chain;
     counter = refl;
@@ -69,7 +70,7 @@ module _ (m : MapOf) where
     steps = 1;
     grown = steps_add_up.one meets.2;
     counter = meets.3;
-    heard = All-cons (IsSeenBy (log after)) other [] meets.1 (All-nil (IsSeenBy (log after)));
+    heard = All-cons (IsHeardBy after.chain.seen) other [] meets.1 (All-nil (IsHeardBy after.chain.seen));
   }
 
   -- one meeting after another
@@ -83,15 +84,15 @@ module _ (m : MapOf) where
     grown = steps_add_up.more a.grown b.grown;
     counter = b.counter ∙ a.counter;
     heard =
-        All-append (IsSeenBy (log after)) seats more
-        (later-heard (log now) (log after) (beginning-logged b.logged) seats a.heard)
+        All-append (IsHeardBy after.chain.seen) seats more
+        (later-heard now.chain.seen after.chain.seen (beginning-grown b.grown) seats a.heard)
         b.heard;
   }
 
   -- of a seat that has heard more
   pub met-less :
       (seats others : List SeatOf) (before after : SeatOf) → HasMetAll m others before after
-      → All (IsSeenBy (log after)) seats
+      → All (IsHeardBy after.chain.seen) seats
       → HasMetAll m seats before after
   met-less seats others before after met heard =
       record {
@@ -107,7 +108,7 @@ module _ (m : MapOf) where
   pub met-itself : (seats : List SeatOf) (before after : SeatOf) → HasMetAll m seats before after
       → HasMetAll m (seats ++ before ∷ []) before after
   met-itself seats before after met = met-less (seats ++ before ∷ []) seats before after met
-      (All-push (IsSeenBy (log after)) seats before met.heard (beginning-logged met.logged))
+      (All-push (IsHeardBy after.chain.seen) seats before met.heard (beginning-grown met.grown))
 
   -- ---- one worker
 
@@ -150,8 +151,8 @@ module _ (m : MapOf) where
             below at all
             (met-as (s ∷ []) worker u mine
             (met-less (s ∷ []) (t ∷ []) worker.seat u (met-one t worker.seat u b)
-            (All-cons (IsSeenBy (log u)) s [] (beginning-more (beginning-logged met.logged) b.1)
-            (All-nil (IsSeenBy (log u))))))),
+            (All-cons (IsHeardBy u.chain.seen) s [] (beginning-more (beginning-grown met.grown) b.1)
+            (All-nil (IsHeardBy u.chain.seen)))))),
         same-after workers now i (seated worker u) below below' rest,
       )
 
@@ -159,18 +160,18 @@ module _ (m : MapOf) where
 
   -- who has heard of them later has heard of them as they were
   heard-earlier :
-      (seats : List SeatOf) (h : List Entry) (before after : List Worker)
+      (seats : List SeatOf) (h : List Event) (before after : List Worker)
       → AllZip (HasMetAs m seats) before after
-      → All (IsSeenBy h) (worker_seats after) → All (IsSeenBy h) (worker_seats before)
-  heard-earlier seats h [] [] all heard = All-nil (IsSeenBy h)
+      → All (IsHeardBy h) (worker_seats after) → All (IsHeardBy h) (worker_seats before)
+  heard-earlier seats h [] [] all heard = All-nil (IsHeardBy h)
   heard-earlier seats h [] (v ∷ after) all heard = absurd all
   heard-earlier seats h (w ∷ before) [] all heard = absurd all
   heard-earlier seats h (w ∷ before) (v ∷ after) all heard =
-      All-cons (IsSeenBy h) w.seat (worker_seats before)
-      (beginning-more (beginning-logged all.0.met.logged)
-      (All-head (IsSeenBy h) v.seat (worker_seats after) heard))
+      All-cons (IsHeardBy h) w.seat (worker_seats before)
+      (beginning-more (beginning-grown all.0.met.grown)
+      (All-head (IsHeardBy h) v.seat (worker_seats after) heard))
       (heard-earlier seats h before after all.1
-      (All-tail (IsSeenBy h) v.seat (worker_seats after) heard))
+      (All-tail (IsHeardBy h) v.seat (worker_seats after) heard))
 
   -- the last one has met the others, which meet then
   pub all-met :
@@ -199,12 +200,12 @@ module _ (m : MapOf) where
         met =
             let then = met-then (last.seat ∷ []) (worker_seats between)
             w.seat v.seat u.seat a.met b.met in
-            let h = log u.seat in
+            let h = u.seat.chain.seen in
             met-less (worker_seats before ++ last.seat ∷ []) (last.seat ∷ worker_seats between)
             w.seat u.seat then
-            (All-push (IsSeenBy h) (worker_seats before) last.seat
+            (All-push (IsHeardBy h) (worker_seats before) last.seat
             (heard-earlier (last.seat ∷ []) h before between each b.met.heard)
-            (All-head (IsSeenBy h) last.seat (worker_seats between) then.heard));
+            (All-head (IsHeardBy h) last.seat (worker_seats between) then.heard));
       }
 
 -- a vector's workers, after each has met these seats

@@ -17,16 +17,15 @@ use Rattle.nb_map.specs.Maps.{AreMine, IsMine, MapOf, SeatOf, new_seat, new_seat
 use Rattle.nb_runner.specs.Outcomes.{HaveWorkers, IsOutcome, lists_in, text_of_outcome}
 use Rattle.nb_script.specs.Script.{Phase}
 use Rattle.nb_runner.specs.Text.{ending, ending_of}
-use Rattle.nb_runner.specs.Told.{ArePhasesTold, IsLoneText, WasCrowded, all_commands, phase_text}
+use Rattle.nb_runner.specs.Told.{ArePhasesTold, IsLoneText, WasCrowded, phase_text}
 use Rattle.nb_runner.specs.Working.{AreNumbered, HasRoomForAnswers, HaveRun, HaveRunAll, all_answers, answers_of, commands_of, joined_answers, worker_seats}
 use Rattle.nb_runner.specs.declared.answers.Answer.{Answer}
 use Rattle.nb_runner.specs.declared.outcome.Outcome.{Outcome}
 use Rattle.nb_runner.specs.declared.workers.Worker.{Worker}
-use Rattle.nb_runner.proofs.Fullness.{crowd-ended}
 use Rattle.nb_runner.proofs.LoneText.{lone-text}
 use Rattle.nb_runner.proofs.OutputLemmas.{AreFirst, AreJoined, joined-answers, joined-lines}
 use Rattle.nb_runner.proofs.PhaseLemmas.{AnswersFit, PhaseFits, answers-fit, answers-workers}
-use Rattle.nb_runner.proofs.ToldLemmas.{MayFill, told-phases}
+use Rattle.nb_runner.proofs.ToldLemmas.{told-phases}
 
 -- ---- what is known of a value, by clause
 
@@ -334,14 +333,9 @@ is-outcome m plan phases before after ended o are fresh ran end left answers siz
     made : All (λ entry. entry.seat < p.seats) (log_left ended)
     made = subst (λ n. All (λ entry. entry.seat < n) (log_left ended)) count end.made
 
-    crowded : MayFill p (all_commands phases) ended.tables.history
-    crowded = crowd-ended m plan phases ran.answers (worker_seats after)
-        ended from_new count end left
-
-    told : ArePhasesTold (WasCrowded p ended.tables.history (all_commands phases))
-        phases ran.answers [] (log_left ended) × All (IsEach p.seats) ran.answers
-    told = told-phases m phases ran.answers (worker_seats after) ended (all_commands phases)
-        from_new end left made crowded
+    told : ArePhasesTold (WasCrowded p ended.tables.history) [] phases ran.answers []
+        (log_left ended) × All (IsEach p.seats) ran.answers
+    told = told-phases m plan phases ran.answers (worker_seats after) ended from_new end left made
 
     text : text_of_outcome phases o ≡ flat_map (phase_text 0) ran.answers ++ ending (map_left ended)
     text =

@@ -1,12 +1,12 @@
 -- What workers do to a map, command by command and phase by phase.
-use Rattle.std.specs.Prelude.{◌≡◌, ◌==◌, ℕ, suc, List, [], ◌∷◌, All, filter, map, length, replicate, vec_capacity, ◌+◌, ◌≤◌, ◌++◌}
+use Rattle.std.specs.Prelude.{◌≡◌, ◌==◌, ℕ, suc, not, List, [], ◌∷◌, All, filter, map, length, replicate, vec_capacity, ◌+◌, ◌≤◌, ◌++◌}
 use Rattle.std.specs.List.{AllZip, flat_map}
 use Rattle.std.specs.declared.vec.Vec.{Vec}
 use Rattle.std.specs.declared.alloc.Global.{Global}
 use Rattle.nb_core.specs.Log.{IsBeginning}
 use Rattle.nb_core.specs.declared.calls.Reply.{Reply}
 use Rattle.nb_map.specs.Calling.{HasMadeSome}
-use Rattle.nb_map.specs.Logs.{HasLogged, HasReplied, log}
+use Rattle.nb_map.specs.Logs.{HasLogged, HasReplied}
 use Rattle.nb_map.specs.Maps.{IsMine, MapOf, SeatOf}
 use Rattle.nb_map.specs.Progress.{Unlimited}
 use Rattle.nb_map.specs.Refusals.{HasRefused}
@@ -50,9 +50,17 @@ AreAnswered m (c ∷ cs) [] before after = ⊥
 AreAnswered m (c ∷ cs) (a ∷ answers) before after =
     (next : SeatOf) × HasRunCommand m c a before next × AreAnswered m cs answers next after
 
+-- all commands of a phase
+abbrev pub commands_in : Phase → List Command
+commands_in phase = map (λ task. task.1) phase
+
 -- a worker's commands of a phase, in their order
 abbrev pub commands_of : ℕ → Phase → List Command
 commands_of w phase = map (λ task. task.1) (filter (λ task. task.0 == w) phase)
+
+-- those of the other workers
+abbrev pub commands_but : ℕ → Phase → List Command
+commands_but w phase = map (λ task. task.1) (filter (λ task. not (task.0 == w)) phase)
 
 -- The workers from number w on have run a phase, each with its seat, and their commands were
 -- answered so.
@@ -63,10 +71,10 @@ PhaseRan m phase w (mine ∷ others) (s ∷ before) (t ∷ after) =
     AreAnswered m (commands_of w phase) mine s t × PhaseRan m phase (suc w) others before after
 PhaseRan m phase w _ _ _ = ⊥
 
--- The seat has made no call since, and no event, and its log goes on from those of all these seats.
+-- The seat has made no call since, and no event, and has seen all that these seats had.
 pub record HasMetAll (m : MapOf) (seats : List SeatOf) (before after : SeatOf) : Type 0 where
   pub logged : HasLogged before after []
-  pub heard : All (λ seat. IsBeginning (log seat) (log after)) seats
+  pub heard : All (λ seat. IsBeginning seat.chain.seen after.chain.seen) seats
   pub steps : ℕ
   pub grown : Grown m.chain.shape before.chain after.chain [] steps
   pub counter : after.count ≡ before.count

@@ -38,5 +38,5 @@ loop-other-preserved c =
     ∙ get_or_default workers i d worker c.loop-other-test.true in
     each-more m workers now i worker c.args.seat.now c.loop-other.seat c.meet.new.a c.meet.new.b
     c.loop-other-test.true below at inv.3 c.meet.ensures.a.own c.meet.ensures.b.own inv.1 inv.2
-    (c.meet.ensures.a.logged, c.meet.ensures.a.knows, c.meet.ensures.a.grows, c.meet.ensures.a.count)
-    (c.meet.ensures.b.logged, c.meet.ensures.b.knows, c.meet.ensures.b.grows, c.meet.ensures.b.count)
+    (c.meet.ensures.a.logged, c.meet.ensures.a.seen, c.meet.ensures.a.grows, c.meet.ensures.a.count)
+    (c.meet.ensures.b.logged, c.meet.ensures.b.seen, c.meet.ensures.b.grows, c.meet.ensures.b.count)
