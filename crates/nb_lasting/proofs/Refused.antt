@@ -1,9 +1,10 @@
 -- A renewal that was refused begins an epoch of the same map: what it has read is nobody's call.
 use Rattle.std.proofs.Common.{◌≡◌, ◌≢◌, ◌∙◌, ◌++◌, ◌<◌, ◌≤◌, ℕ, true, false, if◌then◌else◌, List, [], ◌∷◌, All, Some, ap, inl, inr, length, map, refl, slice_get, subst, sym, arith}
 use Rattle.std.specs.List.{AllZip}
-use Rattle.std.specs.Prelude.{Err, IfErr, Ok, Result, ⊤, get_or, is_err}
+use Rattle.std.specs.Prelude.{Err, IfErr, IfOk, Ok, Result, ⊤, get_or, is_err}
 use Rattle.std.proofs.lemmas.List.{append_assoc, append_cancel_right, length-map}
 use Rattle.std.proofs.lemmas.List.Elements.{All-append, All-cons, All-head, All-nil, All-tail}
+use Rattle.std.proofs.lemmas.List.FromFn.{length-range_with_len}
 use Rattle.std.proofs.lemmas.Option.{slice_get-get_or}
 use Rattle.nb_core.proofs.Seating.{All-left, All-right}
 use Rattle.nb_core.proofs.Theorems.{calls_append}
@@ -18,9 +19,10 @@ use Rattle.nb_map.specs.Entries.{HasOnlyRead, IsRead}
 use Rattle.nb_map.specs.Handles.{HandleOf, IsWhole, handle_on, seats_of}
 use Rattle.nb_map.specs.Logs.{log}
 use Rattle.nb_map.specs.Maps.{MapOf, SeatOf}
-use Rattle.nb_map.specs.Renewing.{IsKept}
-use Rattle.nb_map.specs.Settling.{HasCaughtUp}
+use Rattle.nb_map.specs.Renewing.{HasRenewed, IsKept}
+use Rattle.nb_map.specs.Settling.{HasCaughtUp, HaveSettled}
 use Rattle.nb_map.specs.declared.faults.RenewFault.{RenewFault}
+use Rattle.nb_map.specs.declared.faults.SettleFault.{SettleFault}
 use Rattle.nb_lasting.proofs.Renewed.{anew, at-all, handle-at, length-each, length-zip, mapped-at, seen-map, zip-at, zip-weaker}
 use Rattle.nb_lasting.proofs.Sharing.{Same, decided, log-as-events}
 use Rattle.nb_lasting.specs.Gathered.{AreSingle, IsPartedAnew, IsRested, seats_of_each}
@@ -306,6 +308,32 @@ module _
               replayed = next.replayed;
             },
           )
+
+-- ---- as many seats as before
+
+pub counted-long :
+    (result : Result ℕ SettleFault) (joined whole : HandleOf)
+    → IfOk result (HaveSettled joined.map (seats_of joined) (seats_of whole))
+    → IfErr result (λ refused. whole ≡ joined)
+    → length (seats_of whole) ≡ length (seats_of joined)
+counted-long (Ok size) joined whole settled same =
+    sym (length-zip (HasCaughtUp joined.map (log_of settled.tables.history)) (seats_of joined)
+    (seats_of whole) settled.each)
+counted-long (Err fault) joined whole settled same = ap (λ (h : HandleOf). length (seats_of h)) same
+
+pub renewed-long :
+    (p : Plan) (result : Result ⊤ RenewFault) (joined whole : HandleOf)
+    → length (seats_of joined) ≡ p.seats → IfOk result (λ done. HasRenewed p joined whole)
+    → IfErr result (λ fault. IsRested joined whole) → length (seats_of whole) ≡ p.seats
+renewed-long p (Ok done) joined whole many renewed rested =
+    sym (length-map (seats_of whole) (λ (seat : SeatOf). seat.chain.number))
+    ∙ ap length renewed.begun.begun.numbered
+    ∙ length-range_with_len 0 whole.map.chain.shape.seats
+    ∙ ap (λ (p : Plan). p.seats) renewed.begun.made.shape
+renewed-long p (Err fault) joined whole many renewed rested =
+    sym (length-zip (HasCaughtUp rested.tried.map (log_of rested.settled.tables.history))
+    (seats_of rested.tried) (seats_of whole) rested.settled.each)
+    ∙ kept-long joined rested.tried rested.kept ∙ many
 
 -- ---- a renewal
 

@@ -89,7 +89,8 @@ pub(crate) fn close_row<R: Wait>(
     ensures { HaveEnded guests.items result }
 {
     let handles = take_all_as_guests(rt, row, token, room, guests);
-    match join_handles(handles).close(rt) {
+    let (whole, _) = join_handles(handles);
+    match whole.close(rt) {
         Ok(ended) => ended,
         Err(_) => unreachable!(),
     }

@@ -1,39 +1,56 @@
 //! All handles of a map, each with one seat, are made one, which is counted or made anew, and
 //! split again.
-ghost use Rattle.std.specs.Prelude.{IfErr, IfOk, ℕ, length, map, ◌<◌, ◌≡◌};
+ghost use Rattle.std.specs.Prelude.{[], Err, IfErr, IfOk, ℕ, length, map, vec_capacity, ◌<◌, ◌≡◌, ◌≤◌};
 ghost use Rattle.nb_core.specs.declared.calls.Call.TheVariants as call;
 ghost use Rattle.nb_map.specs.Handles.{HandleOf, IsSameMap, IsWhole, handle_on, seats_of};
+ghost use Rattle.nb_map.specs.Renewing.{HasRenewed, HasTooMany};
 ghost use Rattle.nb_map.specs.Settling.{HaveSettled};
-ghost use Rattle.nb_lasting.specs.Gathered.{IsPartedCounted, AreSingle, HasWrittenBy, IsPartedAnew, seats_of_each};
+ghost use Rattle.nb_map.specs.declared.faults.RenewFault.TheVariants as renew_fault;
+ghost use Rattle.nb_lasting.specs.Gathered.{AreSingle, HasWrittenBy, IsPartedAnew, IsPartedCounted, IsRested, seats_of_each};
 
 use nb_core::{Change, Key, Reply, Shape, Want};
-use nb_map::{Handle, PutFault, RenewFault, SettleFault};
+use nb_map::{Handle, PutFault, RenewFault, SettleFault, SplitFault};
 use std::alloc::Global;
 use std::sync::Wait;
 
-/// All seats in one handle, in the order of their handles.
-pub(crate) fn join_handles(handles: Vec<Handle>) -> Handle
+/// All seats in one handle, in the order of their handles; and the vector that these were in, which
+/// has room for as many. It takes no memory.
+pub(crate) fn join_handles(handles: Vec<Handle>) -> (Handle, Vec<Handle>)
     requires single { AreSingle handles.items }
-    ensures map { (single : AreSingle handles.items) → result.map ≡ single.shared }
-    ensures seats { seats_of result ≡ seats_of_each handles.items }
+    ensures map { (single : AreSingle handles.items) → result.0.map ≡ single.shared }
+    ensures seats { seats_of result.0 ≡ seats_of_each handles.items }
+    ensures empty { result.1.items ≡ [] }
+    ensures room { length handles.items ≤ vec_capacity result.1 }
 {
     let mut others = handles;
     let mut whole = others.remove(0);
-    match whole.join_all(others) {
-        Ok(()) => whole,
-        Err(_) => unreachable!(),
+    others.reverse();
+    while let Some(other) = others.pop() {
+        let Ok(()) = whole.join(other) else {
+            unreachable!();
+        };
     }
+    (whole, others)
 }
 
-/// A handle for each seat, in order. It waits for the memory for two small vectors.
-fn split_handle<R: Wait>(rt: &R, alloc: Global, whole: Handle) -> Vec<Handle>
+/// A handle for each seat, in order, in a vector that has room for them. It takes no memory. It
+/// waits only while the map has as many handles as it can count.
+fn split_handle<R: Wait>(rt: &R, whole: Handle, room: Vec<Handle>) -> Vec<Handle>
+    requires empty { room.items ≡ [] }
+    requires room { length (seats_of whole) ≤ vec_capacity room }
     ensures { result.items ≡ map (handle_on whole.map) (seats_of whole) }
 {
     let mut handle = whole;
+    let mut handles = room;
     for _ in rt.forever() {
-        match handle.split_all(alloc) {
-            Ok(handles) => return handles,
-            Err(back) => handle = back,
+        match handle.split() {
+            Ok(other) => handles.push_reserved(other),
+            Err(SplitFault::OutOfMemory) => {}
+            Err(SplitFault::NoSeat) => {
+                handles.push_reserved(handle);
+                handles.reverse();
+                return handles;
+            }
         }
     }
     unreachable!()
@@ -56,6 +73,26 @@ fn settle<R: Wait>(rt: &R, alloc: Global, whole: &mut Handle)
     unreachable!()
 }
 
+/// A new map in place of this one, of which the handle is then. Where that is refused it is of the
+/// same map, and all its seats know what the refused renewal has read.
+fn renew_or_settle<R: Wait>(
+    rt: &R,
+    alloc: Global,
+    whole: &mut Handle,
+    shape: Shape,
+) -> Result<(), RenewFault>
+    requires whole { IsWhole whole.old }
+    ensures renewed { IfOk result (λ done. HasRenewed shape whole.old whole.new) }
+    ensures rested { IfErr result (λ refused. IsRested whole.old whole.new) }
+    ensures full { result ≡ Err renew_fault.Full → HasTooMany shape whole.old }
+{
+    let renewed = whole.renew(alloc, shape);
+    if renewed.is_err() {
+        settle(rt, alloc, whole);
+    }
+    renewed
+}
+
 /// Handles of a new map in place of these. Where that is refused they are of the same map, and all
 /// of them know what the refused renewal has read.
 pub(crate) fn renew_handles<R: Wait>(
@@ -67,14 +104,12 @@ pub(crate) fn renew_handles<R: Wait>(
     requires single { AreSingle handles.items }
     requires all { (single : AreSingle handles.items)
         → length handles.items ≡ single.shared.chain.shape.seats }
+    requires seats { shape.seats ≡ length handles.items }
     ensures { IsPartedAnew shape handles.items result.0.items result.1 }
 {
-    let mut whole = join_handles(handles);
-    let renewed = whole.renew(alloc, shape);
-    if renewed.is_err() {
-        settle(rt, alloc, &mut whole);
-    }
-    (split_handle(rt, alloc, whole), renewed)
+    let (mut whole, room) = join_handles(handles);
+    let renewed = renew_or_settle(rt, alloc, &mut whole, shape);
+    (split_handle(rt, whole, room), renewed)
 }
 
 /// The same handles, and how many keys the map has, unless memory to count them is refused.
@@ -86,9 +121,9 @@ pub(crate) fn counted<R: Wait>(
     requires single { AreSingle handles.items }
     ensures { IsPartedCounted handles.items result.0.items result.1 }
 {
-    let mut whole = join_handles(handles);
+    let (mut whole, room) = join_handles(handles);
     let size = whole.settle(alloc);
-    (split_handle(rt, alloc, whole), size)
+    (split_handle(rt, whole, room), size)
 }
 
 /// Makes a write by the handle of a lane.

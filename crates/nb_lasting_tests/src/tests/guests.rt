@@ -253,3 +253,42 @@ fn tries_again<R: Wait + Abort>(rt: &R, guest: &mut Guest)
         assert!(rt; found == Ok(None));
     }
 }
+
+/// Memory is refused where all lanes are needed: for the size, by puts that find the map full, and
+/// to settle. Each call ends, however many requests are refused, and the map has what was put.
+#[test]
+fn all_lanes_refused_memory(rt: HostRuntime) {
+    let (mut shared, mut guests) = opened(&rt, rt.alloc(), 2);
+    thread::for_each_mut(
+        &rt,
+        guests.as_mut_slice(),
+        1,
+        &|_, guest: &mut Guest|
+            ensures { guest.exit.now.of ≡ guest.entry.now.of }
+        { puts_while_it_may(&rt, guest) },
+    );
+    let settled = shared.settle(&rt, guests.as_mut_slice());
+    let ended = ended(&rt, shared, guests);
+    assert!(rt; settled == Ok(ended.size()) || settled == Err(SettleFault::OutOfMemory));
+    let left = (0..4000_u32)
+        .filter(|word| ended.contains_key(Key::from(*word)))
+        .count();
+    assert!(rt; left as u64 == ended.size());
+}
+
+/// Asks for the size, and puts two thousand keys, as long as memory isn't refused.
+fn puts_while_it_may<R: Wait + Abort>(rt: &R, guest: &mut Guest)
+    ensures { guest.new.of ≡ guest.old.of }
+{
+    let _ = guest.size(rt);
+    let own = (guest.number() % 2) as u32;
+    for word in 0..2000_u32 {
+        let key = Key::from(2 * word + own);
+        let found = guest.put(rt, key, Num::from(word));
+        if found == Err(GrowFault::OutOfMemory) {
+            assert!(rt; guest.get(rt, key).is_none());
+            return;
+        }
+        assert!(rt; found == Ok(None));
+    }
+}

@@ -14,6 +14,7 @@ renew_handles-handles-requires g c =
           c.requires.holds;
       all = all-of-map c.args.shape.seats c.args.token.now.me c.args.handles.items
           (subst (λ n. 1 ≤ n) (sym seats) c.args.hall.now.some) c.requires.seated c.requires.holds;
+      seats = sym c.requires.holds.still.held.count;
     }
 
 pub deal_renewed-requires : goal.deal_renewed-requires
