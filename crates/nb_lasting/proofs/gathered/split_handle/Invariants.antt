@@ -1,4 +1,4 @@
-use Rattle.std.proofs.Common.{◌≡◌, ◌≤◌, ◌+◌, length, vec_capacity}
+use Rattle.std.proofs.Common.{◌≤◌, length, vec_capacity}
 use Rattle.nb_map.specs.Handles.{seats_of}
 use Rattle.nb_lasting.proofs.Joined.{ArePartedFrom}
 use Rattle.nb_lasting.proofs.gathered.split_handle.Given as goal
