@@ -12,7 +12,7 @@ wheel() {
 }
 # tests FOLDER PYTHON [FLAG]: the tests over a wheel that is unpacked
 tests() {
-    for test in samvolip mapping turns; do
+    for test in turns samvolip mapping; do
         PYTHONPATH="$made/$1" quietly "${@:2}" "$here/tests/test_$test.py" || fail "the test $test fails with $2"
     done
 }
