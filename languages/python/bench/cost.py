@@ -115,7 +115,7 @@ def main() -> None:
         ("put", puts, m),
         ("add", adds, m),
         ("m[k]", subscripts, m),
-        ("m[k] = n", sets, m),
+        ("m[k] = v", sets, m),
         ("a pair of a loop", walks, m),
         ("get_many", get_batches, m),
         ("put_many", put_batches, m),
