@@ -1,5 +1,5 @@
 //! Tests of the lowest libraries: numbers and shapes, words of slots, the plain map, the counter,
-//! the chain, lines.
+//! the chain and its tables, lines.
 mod chain;
 mod counter;
 mod lines;
@@ -7,4 +7,5 @@ mod numbers;
 mod plain;
 mod shapes;
 mod slot_words;
+mod tables;
 mod texts;

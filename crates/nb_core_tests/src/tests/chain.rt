@@ -1,4 +1,4 @@
-//! A chain that nobody writes to, and with refused memory. Its steps are in `nb_table_tests`.
+//! A chain that nobody writes to, and with refused memory. Its steps are in `tables`.
 ghost use Rattle.nb_table.specs.Chains.{AreOwn};
 
 use nb_core::{KEY_MAX, Key, NotAll, Shape};

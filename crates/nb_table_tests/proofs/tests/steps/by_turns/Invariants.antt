@@ -1,6 +1,0 @@
-use Rattle.std.proofs.Common.{All}
-use Rattle.nb_table.specs.Chains.{IsOwn}
-use Rattle.nb_table_tests.proofs.tests.steps.by_turns.Given as goal
-
-abbrev pub invariant-loop-who : goal.invariant-loop-who
-invariant-loop-who g l = All (IsOwn l.chain) l.seats

@@ -1,5 +1,0 @@
-use Rattle.nb_table.specs.Chains.{IsOwn}
-use Rattle.nb_table_tests.proofs.tests.steps.goes.Given as goal
-
-abbrev pub invariant-loop-i : goal.invariant-loop-i
-invariant-loop-i g l = IsOwn l.chain l.seat
