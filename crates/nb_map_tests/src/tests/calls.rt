@@ -17,14 +17,14 @@ const CALLS_THAT_WAIT: [Row; 28] = [
     (5, PutIfAbsent(1), Nothing),
     (5, PutIfAbsent(2), Was(1)),
     (5, Has, Is(true)),
-    (5, Estimate, Was(1)),
+    (0, Estimate, Was(1)),
     (5, Replace(3), Was(1)),
     (5, ReplaceIf(3, 4), Is(true)),
     (5, RemoveIf(3), Is(false)),
     (5, RemoveIf(4), Is(true)),
     (5, Remove, Nothing),
     (5, Get, Nothing),
-    (5, Estimate, Was(0)),
+    (0, Estimate, Was(0)),
     (1, Add(5), Nothing),
     (1, Add(VALUE_MAX - 5), Was(5)),
     (1, Add(1), PAST),
@@ -38,7 +38,7 @@ const CALLS_THAT_WAIT: [Row; 28] = [
     (8, PutAndAdd(10), Was(10)),
     (8, PutAndAdd(VALUE_MAX), PAST),
     (8, Remove, Was(VALUE_MAX)),
-    (7, Generation, Was(1)),
+    (0, Generation, Was(1)),
 ];
 
 /// Writes of a number of tries, where no tries count as one: no other thread comes first here.
@@ -109,29 +109,93 @@ const FULL_TABLE: [Row; 27] = [
     (2, Put(30), Nothing),
 ];
 
-/// Each call by a handle.
+/// Each entry is shown once. What the function refuses goes, and the rest stays. At last nothing is
+/// left. The keys need both tables of a map of two.
+const ALL_ENTRIES: [Row; 9] = [
+    (0, Extend(&SPREAD, Ok(())), Is(true)),
+    (0, Sums(17, 170), Is(true)),
+    (0, Retain, Is(true)),
+    (0, Sums(7, 70), Is(true)),
+    (0, Estimate, Was(2)),
+    (0, List(&[(2, 20), (5, 50)]), Is(true)),
+    (0, Clear, Is(true)),
+    (0, Clear, Is(true)),
+    (0, List(&[]), Is(true)),
+];
+
+const SPREAD: [(u64, u64); 4] = [(1, 10), (2, 20), (5, 50), (9, 90)];
+
+/// Entries are put in their order: the last one of a key stays. Where one is refused, those before
+/// it are put, and none after it.
+const EXTENDED: [Row; 5] = [
+    (0, Extend(&[(1, 10), (2, 20), (1, 11)], Ok(())), Is(true)),
+    (0, Extend(&[], Ok(())), Is(true)),
+    (0, Put(0), Nothing),
+    (1, Get, Was(11)),
+    (0, Extend(&FIVE, Err(FullAfter { put: 3 })), Is(true)),
+];
+
+const FIVE: [(u64, u64); 5] = [(1, 10), (2, 21), (3, 30), (4, 40), (1, 11)];
+
+/// Many keys have what each of them has alone: absent keys and repeated ones, in all tables.
+const MANY: [Row; 2] = [
+    (
+        0,
+        GetMany(
+            &[9, 3, 2, 9, 13],
+            &[Some(90), None, Some(20), Some(90), None],
+        ),
+        Is(true),
+    ),
+    (0, GetMany(&[], &[]), Is(true)),
+];
+
+/// Of two entries of a key the later one stays.
+const KEY_TWICE: [(u64, u64); 5] = [(0, 1), (1, 2), (2, 3), (3, 4), (0, 5)];
+
+/// Each call by a handle. `Percent` tells what part of the slots is taken; more looks at how full a
+/// map is are in `languages/c/tests/rows.c`.
+const STORIES: [Story; 8] = [
+    (
+        (2, 2, 1, 1),
+        &[],
+        &CALLS_THAT_WAIT,
+        &[(1, VALUE_MAX), (2, 0), (6, 10)],
+    ),
+    ((2, 2, 1, 1), &[], &CALLS_THAT_TRY, &[(1, 7), (2, 5)]),
+    (
+        (2, 1, 1, 1),
+        &[],
+        &FULL_TABLE,
+        &[(0, 9), (1, 11), (2, 30), (3, 13)],
+    ),
+    ((2, 2, 1, 1), &[], &ALL_ENTRIES, &[]),
+    (
+        (2, 1, 1, 1),
+        &[],
+        &EXTENDED,
+        &[(0, 0), (1, 10), (2, 21), (3, 30)],
+    ),
+    ((2, 2, 1, 1), &SPREAD, &MANY, &SPREAD),
+    (
+        (2, 1, 3, 1),
+        &KEY_TWICE,
+        &[(0, Get, Was(5))],
+        &[(0, 5), (1, 2), (2, 3), (3, 4)],
+    ),
+    (
+        (2, 1, 3, 1),
+        &[],
+        &[(1, Add(10), Nothing), (0, Percent(25), Is(true))],
+        &[(1, 10)],
+    ),
+];
+
 #[test]
 fn calls_by_a_handle(rt: HostRuntime) {
-    let stories: [(u32, &[Row], &[(u64, u64)]); 3] = [
-        (2, &CALLS_THAT_WAIT, &[(1, VALUE_MAX), (2, 0), (6, 10)]),
-        (2, &CALLS_THAT_TRY, &[(1, 7), (2, 5)]),
-        (1, &FULL_TABLE, &[(0, 9), (1, 11), (2, 30), (3, 13)]),
-    ];
-    for (tables, rows, left) in stories {
-        let mut handle = opened(&rt, rt.alloc(), (2, tables, 1, 1));
-        sees(&rt, &mut handle, rows);
-        leaves(&rt, rt.alloc(), handle, left);
+    for story in &STORIES {
+        plays(&rt, rt.alloc(), story);
     }
-}
-
-/// What part of the slots is taken. More looks at how full a map is are in
-/// `languages/c/tests/rows.c`.
-#[test]
-fn tells_how_full(rt: HostRuntime) {
-    let mut handle = opened(&rt, rt.alloc(), (2, 1, 1, 1));
-    sees(&rt, &mut handle, &[(1, Put(11), Nothing)]);
-    let seen = handle.occupancy();
-    assert!(rt; seen.percent() == 25 && seen.is_last && !seen.should_renew());
 }
 
 /// Each of these says its line of the text.
@@ -173,17 +237,4 @@ fn fault_texts(rt: HostRuntime) {
     ];
     let text = "the new map is full\na seat is missing\nout of memory\n";
     said(&rt, rt.alloc(), &renews, text);
-}
-
-#[test]
-fn ended_with_and_without_keys(rt: HostRuntime) {
-    let (one, two) = (key(&rt, 1), key(&rt, 2));
-    let mut handle = opened(&rt, rt.alloc(), (2, 1, 1, 1));
-    sees(&rt, &mut handle, &[(1, Put(11), Nothing)]);
-    let left = ended(&rt, handle);
-    let has_first = left.contains_key(one) && !left.contains_key(two);
-    assert!(&rt; has_first && left.get(two).is_none() && !left.is_empty());
-    let handle = opened(&rt, rt.alloc(), (2, 1, 1, 1));
-    assert!(&rt; handle.shape().seats() == 1);
-    assert!(&rt; ended(&rt, handle).is_empty());
 }

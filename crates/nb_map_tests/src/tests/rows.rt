@@ -5,20 +5,19 @@ ghost use Rattle.nb_map.specs.Handles.{AreOfOneMap};
 use super::rows::Answer::*;
 use super::rows::Call::*;
 use nb_core::{Change, Key, Num, Reply, Shape, Want};
-use nb_map::{Ended, Handle, PutFault};
+use nb_map::{Ended, FullAfter, Handle, PutFault, RenewFault};
 use std::alloc::Global;
 use std::process::Abort;
 use std::sync::Wait;
 
-/// A call at a key, with plain numbers; `Estimate` and `Generation` are of the whole map. Those
-/// from `TryPut` on wait for nobody. They have one try, or as many as their last number says.
+/// A call at a key, with plain numbers. Those from `TryPut` on wait for nobody. They have one try,
+/// or as many as their last number says. Those from `Estimate` on are of the whole map; from `Sums`
+/// on they are answered by whether they came to what they say.
 #[derive(Clone, Copy)]
 pub(super) enum Call {
     Get,
     GetOr(u64),
     Has,
-    Estimate,
-    Generation,
     Put(u64),
     PutIfAbsent(u64),
     Replace(u64),
@@ -40,6 +39,25 @@ pub(super) enum Call {
     AddAtAny(u64),
     RemoveEqual(u64),
     PutAndAdd(u64),
+    Estimate,
+    Generation,
+    /// All entries are shown. The sums of their keys and of their numbers.
+    Sums(u64, u64),
+    /// Entries stay whose key is past 1 and whose number is below 60.
+    Retain,
+    Clear,
+    /// These entries are put in their order, all of them, or so many, since the map is full.
+    Extend(&'static [(u64, u64)], Result<(), FullAfter>),
+    /// Many keys, and what each has.
+    GetMany(&'static [u64], &'static [Option<u64>]),
+    /// How many hundredths of the slots of the only table are taken.
+    Percent(u64),
+    /// All seats settle, and there are so many keys. Where memory is refused, it is called again.
+    Settle(u64),
+    /// All entries are listed, in whatever order. The same.
+    List(&'static [(u64, u64)]),
+    /// The map is made anew. The same.
+    Renew(Sizes, Result<(), RenewFault>),
 }
 
 /// What a call answers: what was there, whether it matched, or both; or why it is refused.
@@ -109,8 +127,13 @@ pub(super) fn one_more(number: Option<Num>) -> Option<Num> {
     Num::new(before.saturating_add(1)).ok()
 }
 
-/// Makes a call that waits for nobody.
-fn tries<R: Abort>(rt: &R, handle: &mut Handle, at: Key, call: Call) -> Answer {
+/// Makes a call that waits for nobody, or one of the whole map.
+fn tries<R: Wait + Abort + AllocGlobal>(
+    rt: &R,
+    handle: &mut Handle,
+    at: Key,
+    call: Call,
+) -> Answer {
     match call {
         TryPut(n) => found(handle.try_put(at, number(rt, n), 1)),
         TryPutIfAbsent(n) => found(handle.try_put_if_absent(at, number(rt, n), 1)),
@@ -139,6 +162,88 @@ fn tries<R: Abort>(rt: &R, handle: &mut Handle, at: Key, call: Call) -> Answer {
             let want = Want::Equal(number(rt, n));
             replied(handle.put_if_match(at, want, Change::Remove, 1))
         }
+        _ => Is(comes(rt, handle, call)),
+    }
+}
+
+/// These entries, and behind them (0, 0); eight at most.
+pub(super) fn entries<R: Abort>(rt: &R, pairs: &[(u64, u64)]) -> [(Key, Num); 8] {
+    let mut entries = [(Key::from(0_u32), Num::from(0_u32)); 8];
+    for (place, (k, n)) in entries.iter_mut().zip(pairs) {
+        *place = entry(rt, *k, *n);
+    }
+    entries
+}
+
+/// The sums of all keys and of all numbers that are shown.
+fn sums(handle: &mut Handle) -> (u64, u64) {
+    let (mut keys, mut numbers) = (0u64, 0u64);
+    handle.for_each(|key, number| {
+        keys = keys.wrapping_add(key.get());
+        numbers = numbers.wrapping_add(number.get());
+    });
+    (keys, numbers)
+}
+
+/// Whether `Retain` lets an entry stay.
+fn stays(key: Key, number: Num) -> bool {
+    key.get() > 1 && number.get() < 60
+}
+
+/// Whether many keys have what each of them is to have; eight at most.
+fn have<R: Abort>(rt: &R, handle: &mut Handle, numbers: &[u64], due: &[Option<u64>]) -> bool {
+    let (mut keys, mut found) = ([Key::from(0_u32); 8], [None; 8]);
+    for (place, k) in keys.iter_mut().zip(numbers) {
+        *place = key(rt, *k);
+    }
+    let count = numbers.len().min(8);
+    handle.get_many(&keys[..count], &mut found[..count]);
+    for (number, due) in found.iter().zip(due) {
+        if number.map(Num::get) != *due {
+            return false;
+        }
+    }
+    due.len() == count
+}
+
+/// Whether these entries are listed.
+fn lists<R: Abort + AllocGlobal>(rt: &R, handle: &mut Handle, pairs: &[(u64, u64)]) -> bool {
+    for _attempt in 0..2 {
+        if let Ok(listed) = handle.entries(rt.alloc()) {
+            return are_just(listed.as_slice(), pairs);
+        }
+    }
+    false
+}
+
+/// Whether a call of the whole map comes to what it says.
+fn comes<R: Wait + Abort + AllocGlobal>(rt: &R, handle: &mut Handle, call: Call) -> bool {
+    match call {
+        Sums(keys, numbers) => sums(handle) == (keys, numbers),
+        Retain => {
+            handle.retain(rt, stays);
+            true
+        }
+        Clear => {
+            handle.clear(rt);
+            true
+        }
+        Extend(pairs, end) => {
+            handle.extend(rt, &entries(rt, pairs)[..pairs.len().min(8)]) == end
+        }
+        GetMany(keys, due) => have(rt, handle, keys, due),
+        Percent(percent) => {
+            let seen = handle.occupancy();
+            seen.percent() == percent && seen.is_last && !seen.should_renew()
+        }
+        Settle(size) => {
+            handle.settle(rt.alloc()) == Ok(size) || handle.settle(rt.alloc()) == Ok(size)
+        }
+        List(pairs) => lists(rt, handle, pairs),
+        Renew(sizes, end) => {
+            let shape = shape(rt, sizes);
+            handle.renew(rt.alloc(), shape) == end || handle.renew(rt.alloc(), shape) == end
+        }
         _ => panic!(rt; "this is another call"),
     }
 }
@@ -155,7 +260,7 @@ fn put_and_add<R: Wait>(
 }
 
 /// Makes the call at the key.
-fn makes<R: Wait + Abort>(rt: &R, handle: &mut Handle, k: u64, call: Call) -> Answer {
+fn makes<R: Wait + Abort + AllocGlobal>(rt: &R, handle: &mut Handle, k: u64, call: Call) -> Answer {
     let at = key(rt, k);
     match call {
         Get => was(handle.get(at)),
@@ -180,7 +285,7 @@ fn makes<R: Wait + Abort>(rt: &R, handle: &mut Handle, k: u64, call: Call) -> An
 }
 
 /// Makes these calls, which answer so.
-pub(super) fn sees<R: Wait + Abort>(rt: &R, handle: &mut Handle, rows: &[Row]) {
+pub(super) fn sees<R: Wait + Abort + AllocGlobal>(rt: &R, handle: &mut Handle, rows: &[Row]) {
     for (k, call, answer) in rows {
         assert!(rt; makes(rt, handle, *k, *call) == *answer, "key {k}");
     }
@@ -233,6 +338,44 @@ pub(super) fn opened<R: Abort>(rt: &R, alloc: Global, sizes: Sizes) -> Handle {
     panic!(rt; "memory")
 }
 
+/// The whole handle of a map that has these entries, eight at most, also where one request for memory
+/// is refused.
+pub(super) fn opened_with<R: Abort>(
+    rt: &R,
+    alloc: Global,
+    sizes: Sizes,
+    pairs: &[(u64, u64)],
+) -> Handle {
+    let entries = entries(rt, pairs);
+    for _attempt in 0..2 {
+        let opened = Handle::open_with(alloc, shape(rt, sizes), &entries[..pairs.len().min(8)]);
+        if let Ok(handle) = opened {
+            return handle;
+        }
+    }
+    panic!(rt; "room and memory")
+}
+
+/// A map of this shape that has entries from the start, calls with their answers, and what is left.
+pub(super) type Story = (
+    Sizes,
+    &'static [(u64, u64)],
+    &'static [Row],
+    &'static [(u64, u64)],
+);
+
+/// Makes the calls of a story. Then there is a handle for each seat, and they are joined again: that
+/// is the whole handle, and ends the map.
+pub(super) fn plays<R: Wait + Abort + AllocGlobal>(rt: &R, alloc: Global, story: &Story) {
+    let (sizes, pairs, rows, left) = *story;
+    let mut handle = opened_with(rt, alloc, sizes, pairs);
+    sees(rt, &mut handle, rows);
+    let seats = handle.seats();
+    let handle = joined(rt, parted(rt, alloc, handle));
+    assert!(rt; handle.is_whole() && handle.seats() == seats);
+    leaves(rt, alloc, handle, left);
+}
+
 /// The two handles of a map with two seats. Its first table has four slots, and its second eight.
 pub(super) fn two<R: Abort>(rt: &R, alloc: Global) -> (Handle, Handle)
     ensures { result.0.map ≡ result.1.map }
@@ -255,7 +398,7 @@ pub(super) fn put_together<R: Abort>(rt: &R, a: Handle, b: Handle) -> Handle
 }
 
 /// Ends the map of this whole handle.
-pub(super) fn ended<R: Wait + Abort>(rt: &R, handle: Handle) -> Ended {
+fn ended<R: Wait + Abort>(rt: &R, handle: Handle) -> Ended {
     match handle.close(rt) {
         Ok(ended) => ended,
         Err(_) => panic!(rt; "all seats are here"),
@@ -263,13 +406,25 @@ pub(super) fn ended<R: Wait + Abort>(rt: &R, handle: Handle) -> Ended {
 }
 
 /// Whether these are the entries, in whatever order.
-pub(super) fn are_just(entries: &[(Key, Num)], pairs: &[(u64, u64)]) -> bool {
+fn are_just(entries: &[(Key, Num)], pairs: &[(u64, u64)]) -> bool {
     for (k, n) in entries {
         if !pairs.contains(&(k.get(), n.get())) {
             return false;
         }
     }
     entries.len() == pairs.len()
+}
+
+/// Whether what is left has just these keys, each with its number, and not the key 1000.
+fn has_left<R: Abort>(rt: &R, ended: &Ended, entries: &[(Key, Num)], pairs: &[(u64, u64)]) -> bool {
+    for (key, number) in entries {
+        if ended.get(*key) != Some(*number) || !ended.contains_key(*key) {
+            return false;
+        }
+    }
+    let absent = key(rt, 1000);
+    let has_none = ended.get(absent).is_none() && !ended.contains_key(absent);
+    has_none && ended.is_empty() == pairs.is_empty() && ended.size() == pairs.len() as u64
 }
 
 /// Ends the map of this whole handle. These keys are left, each with its number.
@@ -280,5 +435,6 @@ pub(super) fn leaves<R: Wait + Abort>(rt: &R, alloc: Global, handle: Handle, pai
         Err(_) => ended.entries(alloc),
     };
     let entries = entries.expect(rt, "memory");
-    assert!(rt; ended.size() == pairs.len() as u64 && are_just(entries.as_slice(), pairs));
+    assert!(rt; has_left(rt, &ended, entries.as_slice(), pairs));
+    assert!(rt; are_just(entries.as_slice(), pairs));
 }

@@ -1,7 +1,7 @@
 //! Threads that call one map by handles, and handles that wait for one another.
 ghost use Rattle.nb_map.specs.Handles.{IsSameMap};
 
-use super::rows::Answer::{Nothing, Was};
+use super::rows::Answer::{Is, Nothing, Was};
 use super::rows::Call::*;
 use super::rows::*;
 use nb_core::{Key, Num};
@@ -40,17 +40,32 @@ fn all_add<R: Threads + Sync + Wait + Abort>(
 fn settled_listed_and_renewed_between_rounds(rt: HostRuntime) {
     let (key, once) = entry(&rt, 7, 1);
     let mut handle = opened(&rt, rt.alloc(), (4, 4, 4, 1));
-    assert!(rt; handle.settle(rt.alloc()) == Ok(0));
-    let mut handle = all_add(&rt, rt.alloc(), handle, key, once);
-    assert!(rt; handle.settle(rt.alloc()) == Ok(1));
-    sees(&rt, &mut handle, &[(9, Put(1), Nothing), (7, Get, Was(4))]);
-    let mut handle = all_add(&rt, rt.alloc(), handle, key, once);
-    let listed = handle.entries(rt.alloc()).expect(&rt, "all seats are here");
-    assert!(rt; are_just(listed.as_slice(), &[(7, 8), (9, 1)]));
-    assert!(rt; handle.renew(rt.alloc(), shape(&rt, (4, 4, 4, 1))).is_ok());
-    let handle = all_add(&rt, rt.alloc(), handle, key, once);
+    sees(&rt, &mut handle, &[(0, Settle(0), Is(true))]);
+    for rows in &BETWEEN_ROUNDS {
+        handle = all_add(&rt, rt.alloc(), handle, key, once);
+        sees(&rt, &mut handle, rows);
+    }
     leaves(&rt, rt.alloc(), handle, &[(7, 12), (9, 1)]);
 }
+
+/// What the whole handle sees after each round.
+const BETWEEN_ROUNDS: [[Row; 3]; 3] = [
+    [
+        (0, Settle(1), Is(true)),
+        (9, Put(1), Nothing),
+        (7, Get, Was(4)),
+    ],
+    [
+        (0, List(&[(7, 8), (9, 1)]), Is(true)),
+        (0, Renew((4, 4, 4, 1), Ok(())), Is(true)),
+        (7, Get, Was(8)),
+    ],
+    [
+        (0, Settle(2), Is(true)),
+        (7, Get, Was(12)),
+        (0, Estimate, Was(2)),
+    ],
+];
 
 /// Another thread, to which the handle is moved, asks for the key.
 fn asks_elsewhere<R: Threads + Wait>(rt: &R, theirs: Handle, key: Key) {
