@@ -1,6 +1,4 @@
 //! The counter, by seats and by threads.
-ghost use Rattle.std.specs.Prelude.{◌≤◌};
-ghost use Rattle.nb_core.specs.declared.shapes.TheConstants.{MAX_SEATS, MAX_STRIPES};
 ghost use Rattle.nb_count.specs.Counts.{AreOwn, IsOwn};
 
 use nb_core::{MAX_SEATS, MAX_STRIPES, NotAll};
@@ -47,10 +45,10 @@ fn closed<R: Abort>(rt: &R, counter: Counter, seats: Vec<CountSeat>) -> Option<u
 
 /// A counter with its seats, also where one request for memory is refused.
 fn made<R: Abort>(rt: &R, alloc: Global, stripes: usize, seats: usize) -> (Counter, Vec<CountSeat>)
-    requires stripes { (1 ≤ stripes) × (stripes ≤ MAX_STRIPES) }
-    requires seats { (1 ≤ seats) × (seats ≤ MAX_SEATS) }
     ensures { AreOwn result.0 result.1.items }
 {
+    assert!(rt; 1 <= stripes && stripes <= MAX_STRIPES);
+    assert!(rt; 1 <= seats && seats <= MAX_SEATS);
     for _attempt in 0..2 {
         if let Ok(made) = Counter::new(alloc, stripes, seats) {
             return made;
@@ -62,38 +60,32 @@ fn made<R: Abort>(rt: &R, alloc: Global, stripes: usize, seats: usize) -> (Count
 /// What the last of eight seats takes off again.
 const LATE: [i64; 8] = [0, 0, 0, 0, 0, 0, 0, -30];
 
-/// Each seat adds the amount at its index, once or twice. The sums are modulo 2^64.
-const SUMS: [(&str, usize, usize, &[i64], &[i64], u64); 5] = [
-    ("counter_of_three", 2, 3, &[5, -2, 1], &[], 4),
-    ("counter_below_zero", 1, 1, &[-1], &[], u64::MAX),
-    (
-        "eight_stripes",
-        3,
-        8,
-        &[0, 1, 2, 3, 4, 5, 6, 7],
-        &LATE,
-        u64::MAX - 1,
-    ),
-    (
-        "extreme_amounts",
-        2,
-        2,
-        &[i64::MAX, i64::MIN],
-        &[],
-        u64::MAX,
-    ),
-    ("estimates", 3, 4, &[7, -2, 10, 1], &[], 16),
+/// Stripes, seats, and what each seat adds first and then. The sum is modulo 2^64.
+type Row = (usize, usize, &'static [i64], &'static [i64], u64);
+
+/// The rows counter_of_three, counter_below_zero and eight_stripes, extreme amounts, and an estimate.
+const SUMS: [Row; 5] = [
+    (2, 3, &[5, -2, 1], &[], 4),
+    (1, 1, &[-1], &[], u64::MAX),
+    (3, 8, &[0, 1, 2, 3, 4, 5, 6, 7], &LATE, u64::MAX - 1),
+    (2, 2, &[i64::MAX, i64::MIN], &[], u64::MAX),
+    (3, 4, &[7, -2, 10, 1], &[], 16),
 ];
+
+/// Each seat adds the amount at its index, once or twice.
+fn sums_to<R: Abort>(rt: &R, alloc: Global, row: &Row) {
+    let (stripes, seats, first, second, sum) = *row;
+    let (counter, mut seats) = made(rt, alloc, stripes, seats);
+    add_each(&counter, &mut seats, first);
+    add_each(&counter, &mut seats, second);
+    assert!(rt; estimated(&counter, &mut seats) == Some(sum));
+    assert!(rt; closed(rt, counter, seats) == Some(sum));
+}
 
 #[test]
 fn sums(rt: HostRuntime) {
-    for (name, stripes, seats, first, second, sum) in SUMS {
-        assert!(rt; 1 <= stripes && stripes <= MAX_STRIPES && 1 <= seats && seats <= MAX_SEATS);
-        let (counter, mut seats) = made(&rt, rt.alloc(), stripes, seats);
-        add_each(&counter, &mut seats, first);
-        add_each(&counter, &mut seats, second);
-        assert!(rt; estimated(&counter, &mut seats) == Some(sum), "{name}");
-        assert!(rt; closed(&rt, counter, seats) == Some(sum), "{name}");
+    for row in &SUMS {
+        sums_to(&rt, rt.alloc(), row);
     }
 }
 

@@ -2,43 +2,33 @@
 use nb_core::{DigitsFault, KEY_MAX, Key, Num, RangeFault, mix, read_number, unmix};
 use std::collections::BTreeSet;
 
-/// The ranges of keys and numbers, from and to the numbers of Rust.
+/// Why a number is no key, and no value.
+fn faults_of(number: u64) -> (Option<RangeFault>, Option<RangeFault>) {
+    (Key::try_from(number).err(), Num::try_from(number).err())
+}
+
+/// The ranges of keys and numbers.
 #[test]
 fn keys_and_numbers(rt: HostRuntime) {
-    let (key_range, value_range) = (RangeFault::KeyRange, RangeFault::ValueRange);
-    for (number, key, num) in [
-        (4_294_967_295, None, None),
-        (1_152_921_504_606_846_975, None, None),
-        (1_152_921_504_606_846_976, None, Some(value_range)),
-        (18_446_744_073_709_551_613, None, Some(value_range)),
-        (
-            18_446_744_073_709_551_614,
-            Some(key_range),
-            Some(value_range),
-        ),
-        (u64::MAX, Some(key_range), Some(value_range)),
+    let (key, value) = (Some(RangeFault::KeyRange), Some(RangeFault::ValueRange));
+    for (number, faults) in [
+        (1_152_921_504_606_846_975, (None, None)),
+        (1_152_921_504_606_846_976, (None, value)),
+        (18_446_744_073_709_551_613, (None, value)),
+        (18_446_744_073_709_551_614, (key, value)),
+        (u64::MAX, (key, value)),
     ] {
-        assert!(rt;
-            Key::new(number).err() == key && Num::new(number).err() == num,
-            "{number}"
-        );
-        assert!(rt; Key::try_from(number) == Key::new(number), "{number}");
-        assert!(rt; Num::try_from(number) == Num::new(number), "{number}");
-        assert!(rt;
-            Key::new(number).map_or(number, Key::get) == number,
-            "{number}"
-        );
-        assert!(rt;
-            Num::new(number).map_or(number, Num::get) == number,
-            "{number}"
-        );
+        assert!(rt; faults_of(number) == faults);
     }
-    let (key, number) = (Key::from(4_294_967_295_u32), Num::from(4_294_967_295_u32));
-    assert!(rt; (u64::from(key), u64::from(number)) == (4_294_967_295, 4_294_967_295));
-    let (seven, five) = (Key::from(7_u32), Num::from(5_u32));
-    let shown = format!(in rt.alloc(); "{key} {number}; {seven:>3} {five:03}");
-    let shown = shown.expect(&rt, "memory");
-    assert!(rt; shown.as_str() == "4294967295 4294967295;   7 005");
+}
+
+/// Keys and numbers to and from those of Rust, and as texts.
+#[test]
+fn keys_and_numbers_shown(rt: HostRuntime) {
+    let (key, number) = (Key::from(4_294_967_295_u32), Num::from(5_u32));
+    assert!(rt; u64::from(key) == 4_294_967_295 && u64::from(number) == 5);
+    let shown = format!(in rt.alloc(); "{key} {key:>12} {number:03}").expect(&rt, "memory");
+    assert!(rt; shown.as_str() == "4294967295   4294967295 005");
 }
 
 /// A text is no number either where the digits before another byte are too many.
@@ -67,6 +57,11 @@ fn numbers_of_64_bits(rt: HostRuntime) {
     }
 }
 
+/// Whether a number is mixed to this one, and back, and whether that is a key.
+fn is_mixed(number: u64, mixed: u64, is_key: bool) -> bool {
+    mix(number) == mixed && unmix(mixed) == number && Key::new(mixed).is_ok() == is_key
+}
+
 /// The last but one and the one before it are mixed to what is no key:
 /// `mixed_past_the_greatest_key`.
 #[test]
@@ -82,12 +77,7 @@ fn mixed_numbers(rt: HostRuntime) {
         (5863696168926310861, u64::MAX - 1, false),
         (unmix(KEY_MAX), KEY_MAX, true),
     ] {
-        assert!(rt;
-            mix(number) == mixed && unmix(mixed) == number,
-            "of {number}"
-        );
-        assert!(rt; mix(unmix(number)) == number, "of {number}");
-        assert!(rt; Key::new(mixed).is_ok() == is_key, "of {number}");
+        assert!(rt; is_mixed(number, mixed, is_key));
     }
 }
 
