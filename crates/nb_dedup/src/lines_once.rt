@@ -34,7 +34,7 @@ impl<W: Write + Drop> TakesLines for Printed<W> {
 
     ghost leaves = { λ first now block. BlockMayNotFit first.plan.limit now.catalog block };
 
-    ghost refuses = { λ _ told lines. IsTooMuch told lines };
+    ghost refuses = { λ _ told lines. IsTooMuch told lines ⊎ (told ≡ fault.Write) };
 
     fn take<R: Threads + Sync + Wait>(
         self,

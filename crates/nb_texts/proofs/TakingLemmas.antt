@@ -166,15 +166,27 @@ left-told ahead known taken leaves Q has told =
 
 -- ---- why lines were refused
 
+-- they were, or there was another reason
+pub ended-or :
+    (known : Option (List ℕ)) (told : ProgramFault) (refuses : ProgramFault → List (List ℕ) → Type 0)
+    (other : ProgramFault → Type 0) → IsEndedBy known (λ told lines. refuses told lines ⊎ other told) told
+    → IsEndedBy known refuses told ⊎ other told
+ended-or known told refuses other (inl read) = inl (inl read)
+ended-or known told refuses other (inr (inr often)) = inl (inr (inr often))
+ended-or known told refuses other (inr (inl refused)) = elim refused.refused [
+  | inl is ↦ inl (inr (inl (record { lines = refused.lines; refused = is; are = refused.are })))
+  | inr is ↦ inr is
+]
+
 module _
     (f : List (List ℕ) → List (List ℕ)) (known : Option (List ℕ)) (told : ProgramFault)
     (ended : IsEndedBy known (λ told lines. IsTooMuch told (f lines)) told)
   where
-    pub ended-errors : IsReadFault told ⊎ IsNoRoom told ⊎ (told ≡ fault.TooOften) ⊎ (told ≡ fault.Write)
+    pub ended-errors : IsReadFault told ⊎ IsNoRoom told ⊎ (told ≡ fault.TooOften)
     ended-errors = elim ended [
       | inl read ↦ inl read
       | inr (inl refused) ↦ inr refused.refused.errors
-      | inr (inr often) ↦ inr (inr (inl often.0))
+      | inr (inr often) ↦ inr (inr often.0)
     ]
 
     pub ended-too_many : told ≡ fault.FullOfLines
@@ -234,18 +246,11 @@ no-room told taken none full = record {
   ];
 }
 
--- a write has failed, or there is no memory for it
-pub no-write :
-    (told : ProgramFault) (taken : List (List ℕ)) → (told ≡ fault.OutOfMemory) ⊎ (told ≡ fault.Write)
-    → IsTooMuch told taken
-no-write told taken (inl memory) =
+-- there is no memory
+pub no-memory : (told : ProgramFault) (taken : List (List ℕ)) → told ≡ fault.OutOfMemory → IsTooMuch told taken
+no-memory told taken memory =
     no-room told taken (inl memory)
     (λ is. absurd (let wrong : fault.OutOfMemory ≡ fault.FullOfLines = sym memory ∙ is in cc))
-no-write told taken (inr write) = record {
-  errors = inr (inr write);
-  too_many = λ is. absurd (let wrong : fault.Write ≡ fault.FullOfLines = sym write ∙ is in cc);
-  too_often = λ is. absurd (let wrong : fault.Write ≡ fault.TooOften = sym write ∙ is in cc);
-}
 
 -- there is no room, or a line comes too often
 pub no-count :
@@ -254,4 +259,4 @@ pub no-count :
     → (told ≡ fault.TooOften → 2 ^ 64 ≤ length taken) → IsTooMuch told taken
 no-count told taken (inl none) full often = no-room told taken none full
 no-count told taken (inr is) full often =
-    record { errors = inr (inl is); too_many = full; too_often = often }
+    record { errors = inr is; too_many = full; too_often = often }

@@ -48,8 +48,8 @@ abbrev pub IsEndedBy : Option (List ℕ) → (refuses : ProgramFault → List (L
 IsEndedBy known refuses told =
     IsReadFault told ⊎ LinesAreRefused known (refuses told) ⊎ ((told ≡ fault.TooOften) × AreTooMany known)
 
--- what was taken of lines is refused, or a write has failed
+-- what was taken of lines is refused
 pub record IsTooMuch (told : ProgramFault) (taken : List (List ℕ)) : Type 0 where
-  pub errors : IsNoRoom told ⊎ (told ≡ fault.TooOften) ⊎ (told ≡ fault.Write)
+  pub errors : IsNoRoom told ⊎ (told ≡ fault.TooOften)
   pub too_many : told ≡ fault.FullOfLines → MOST_KEYS < length (distinct taken)
   pub too_often : told ≡ fault.TooOften → 2 ^ 64 ≤ length taken

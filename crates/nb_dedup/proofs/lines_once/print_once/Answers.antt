@@ -1,15 +1,24 @@
-use Rattle.std.proofs.Common.{inl, inr, refl, subst, sym}
+use Rattle.std.proofs.Common.{◌≡◌, ℕ, List, Option, inl, inr, refl, subst, sym}
 use Rattle.std.proofs.lemmas.Bool.{cases_Bool}
 use Rattle.std.proofs.lemmas.Result.{IfErr-at_err, IfErr-weaker, IfOk-weaker}
 use Rattle.std.specs.Io.KnownBytes.{Appends}
+use Rattle.std.specs.Prelude.{◌⊎◌}
 use Rattle.nb_lines.specs.declared.faults.ProgramFault.TheVariants as fault
-use Rattle.nb_texts.proofs.Theorems.{ended-errors, ended-too_many, ended-too_often, taken-first, taken-whole, unlimited}
+use Rattle.nb_lines.specs.declared.faults.ProgramFault.{ProgramFault}
+use Rattle.nb_texts.proofs.Theorems.{ended-errors, ended-or, ended-too_many, ended-too_often, taken-first, taken-whole, unlimited}
 use Rattle.nb_texts.specs.Lines.{distinct, text_of_lines}
 use Rattle.nb_texts.specs.Memory.{KeepsTo, load_of}
-use Rattle.nb_texts.specs.Taking.{HasLeft}
+use Rattle.nb_texts.specs.Taking.{HasLeft, IsEndedBy, IsTooMuch}
 use Rattle.nb_dedup.specs.Limits.{HasPrintedFirst, BlockMayNotFit}
 use Rattle.nb_dedup.proofs.OnceLemmas.{printed-left, printed-none}
 use Rattle.nb_dedup.proofs.lines_once.print_once.Goals as goal
+
+-- lines were refused, or a write has failed
+refused :
+    (known : Option (List ℕ)) (told : ProgramFault)
+    → IsEndedBy known (λ told lines. IsTooMuch told lines ⊎ (told ≡ fault.Write)) told
+    → IsEndedBy known IsTooMuch told ⊎ (told ≡ fault.Write)
+refused known told ended = ended-or known told IsTooMuch (λ told. told ≡ fault.Write) ended
 
 pub take_lines-requires-clause-begun : goal.take_lines-requires-clause-begun
 take_lines-requires-clause-begun g c = λ _ _. (
@@ -70,15 +79,29 @@ returns-clause-full g c =
 pub returns-clause-errors : goal.returns-clause-errors
 returns-clause-errors g c =
     IfErr-weaker c.take_lines.result _ _
-    (λ told ended. ended-errors (λ lines. lines) (g.I.Read.remaining c.args.reader.now) told ended)
+    (λ told ended. elim (refused (g.I.Read.remaining c.args.reader.now) told ended) [
+      | inl is ↦ elim (ended-errors (λ lines. lines) (g.I.Read.remaining c.args.reader.now) told is) [
+        | inl read ↦ inl read
+        | inr (inl room) ↦ inr (inl room)
+        | inr (inr often) ↦ inr (inr (inl often))
+      ]
+      | inr write ↦ inr (inr (inr write))
+    ])
     c.take_lines.ensures.refused
 
 pub returns-clause-too_many : goal.returns-clause-too_many
 returns-clause-too_many g c = λ is.
-    ended-too_many (λ lines. lines) (g.I.Read.remaining c.args.reader.now) fault.FullOfLines
-    (IfErr-at_err _ is c.take_lines.ensures.refused) refl
+    elim (refused (g.I.Read.remaining c.args.reader.now) fault.FullOfLines (IfErr-at_err _ is c.take_lines.ensures.refused)) [
+      | inl ended ↦
+          ended-too_many (λ lines. lines) (g.I.Read.remaining c.args.reader.now) fault.FullOfLines ended refl
+      | inr write ↦ absurd (let wrong : fault.FullOfLines ≡ fault.Write = write in cc)
+    ]
 
 pub returns-clause-too_often : goal.returns-clause-too_often
 returns-clause-too_often g c = λ is.
-    ended-too_often (λ lines. lines) (g.I.Read.remaining c.args.reader.now) fault.TooOften
-    (IfErr-at_err _ is c.take_lines.ensures.refused) (λ lines. refl) refl
+    elim (refused (g.I.Read.remaining c.args.reader.now) fault.TooOften (IfErr-at_err _ is c.take_lines.ensures.refused)) [
+      | inl ended ↦
+          ended-too_often (λ lines. lines) (g.I.Read.remaining c.args.reader.now) fault.TooOften ended
+          (λ lines. refl) refl
+      | inr write ↦ absurd (let wrong : fault.TooOften ≡ fault.Write = write in cc)
+    ]

@@ -60,5 +60,10 @@ pub returns-in_err-counted-clause-errors : goal.returns-in_err-counted-clause-er
 returns-in_err-counted-clause-errors g c =
     let p = err_from_is_err_and c.from_residual.result
     c.from_residual.ensures.1 in
-    rw (p.1, p.2) (ended-errors (counted_of c.args.options.column) (g.I.Read.remaining c.args.reader.now)
-    c.in_err-counted.field-0.0 c.in_err-counted.ensures.refused)
+    rw (p.1, p.2)
+    (elim (ended-errors (counted_of c.args.options.column) (g.I.Read.remaining c.args.reader.now)
+    c.in_err-counted.field-0.0 c.in_err-counted.ensures.refused) [
+      | inl read ↦ inl read
+      | inr (inl room) ↦ inr (inl room)
+      | inr (inr often) ↦ inr (inr (inl often))
+    ])

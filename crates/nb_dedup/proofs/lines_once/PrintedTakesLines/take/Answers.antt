@@ -1,10 +1,10 @@
-use Rattle.std.proofs.Common.{◌≡◌, ◌≤◌, ◌+◌, Err, ap, arith, false, length, refl, subst, true}
+use Rattle.std.proofs.Common.{◌≡◌, ◌≤◌, ◌+◌, Err, ap, arith, false, inl, inr, length, refl, subst, true}
 use Rattle.std.proofs.lemmas.Bool.Decides.{nat_tests}
 use Rattle.std.proofs.lemmas.Result.{err_from_is_err_and}
 use Rattle.std.specs.Bool.{OnFalse, OnTrue}
 use Rattle.std.specs.Prelude.{min}
 use Rattle.nb_core.specs.declared.shapes.TheConstants.{MOST_KEYS}
-use Rattle.nb_texts.proofs.Theorems.{no-room, no-write, past-more}
+use Rattle.nb_texts.proofs.Theorems.{no-memory, no-room, past-more}
 use Rattle.nb_texts.specs.Memory.{TellsWhetherFits}
 use Rattle.nb_texts.specs.declared.memory.Load.{Load}
 use Rattle.nb_dedup.proofs.OnceLemmas.{printed-full, printed-left_alone, printed-more, printed-over}
@@ -53,9 +53,9 @@ returns-in_err-make_room_within-clause-refused g c =
     let p = err_from_is_err_and c.from_residual.result
     c.from_residual.ensures.1 in
     rw (p.1, p.2) (λ ahead first taken more has.
-    no-room told _ c.in_err-make_room_within.ensures.errors
+    inl (no-room told _ c.in_err-make_room_within.ensures.errors
     (λ is. past-more taken _ MOST_KEYS
-    (omega (arith, c.in_err-make_room_within.ensures.full (ap Err is), ap length has.1.are))))
+    (omega (arith, c.in_err-make_room_within.ensures.full (ap Err is), ap length has.1.are)))))
 
 pub returns-in_err-enter-clause-refused : goal.returns-in_err-enter-clause-refused
 returns-in_err-enter-clause-refused g c =
@@ -69,14 +69,17 @@ returns-in_err-enter-clause-refused g c =
     let p = err_from_is_err_and c.from_residual-in_err-enter.result
     c.from_residual-in_err-enter.ensures.1 in
     rw (p.1, p.2) (λ ahead first taken more has.
-    no-room told _ c.in_err-enter.ensures.errors
+    inl (no-room told _ c.in_err-enter.ensures.errors
     (λ is.
     printed-full first.plan.limit _ _ taken more c.args.self.catalog made c.args.block.now load has.1
-    c.make_room_within.ensures.same c.requires.lines room (c.in_err-enter.ensures.full (ap Err is))))
+    c.make_room_within.ensures.same c.requires.lines room (c.in_err-enter.ensures.full (ap Err is)))))
 
 pub returns-in_err-write_from-clause-refused : goal.returns-in_err-write_from-clause-refused
 returns-in_err-write_from-clause-refused g c =
     let told = c.in_err-write_from.field-0.0 in
     let p = err_from_is_err_and c.from_residual-in_err-write_from.result
     c.from_residual-in_err-write_from.ensures.1 in
-    rw (p.1, p.2) (λ ahead first taken more has. no-write told _ c.in_err-write_from.ensures.errors)
+    rw (p.1, p.2) (λ ahead first taken more has. elim c.in_err-write_from.ensures.errors [
+      | inl memory ↦ inl (no-memory told _ memory)
+      | inr write ↦ inr write
+    ])
