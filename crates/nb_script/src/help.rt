@@ -40,6 +40,10 @@ Ops, with the reply and what each does:
   for a new key, and range if a sum would exceed the greatest value. After full or
   range, nothing has changed.
 
+Room:
+  The last table has room for as many keys as slots, by default for 128. A removed
+  key keeps its slot. With --plan 4,19 there is room for 524288 keys, half a million.
+
 Output:
   First the replies, phase by phase and worker by worker. Each comes after its
   worker's number. Then 'size' and the number of keys. Then each key with its
