@@ -211,6 +211,7 @@ IsWantInRange want.Any = Unit {0}
 IsWantInRange want.Absent = Unit {0}
 IsWantInRange want.Present = Unit {0}
 IsWantInRange (want.Equal n) = n ≤ VALUE_MAX
+IsWantInRange (want.Below n) = n ≤ VALUE_MAX
 
 -- the number of the change, if it has one, is a number of the map
 abbrev pub IsChangeInRange : Change → Type 0

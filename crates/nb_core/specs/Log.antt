@@ -1,11 +1,11 @@
 -- The log: calls with their replies, one after another, in the words of
 -- `java.util.concurrent.ConcurrentMap`.
-use Rattle.std.specs.Prelude.{◌≡◌, ℕ, ◌+◌, ◌==◌, Bool, true, false, if◌then◌else◌, List, [], ◌∷◌, ◌++◌, Option, Some, None, is_some, is_none, unwrap_or}
+use Rattle.std.specs.Prelude.{◌≡◌, ℕ, ◌+◌, ◌==◌, Bool, true, false, if◌then◌else◌, List, [], ◌∷◌, ◌++◌, Option, Some, None, is_some, is_none, nat_lt, unwrap_or}
 use Rattle.std.specs.FinMap.{FinMap, empty, get, insert, remove}
 use Rattle.std.specs.List.{filter_map}
 use Rattle.std.specs.Ordering.{nat_cmp}
 use Rattle.nb_core.specs.declared.calls.Want.{Want}
-use Rattle.nb_core.specs.declared.calls.Want.TheVariants.{Any, Absent, Present, Equal}
+use Rattle.nb_core.specs.declared.calls.Want.TheVariants.{Any, Absent, Present, Equal, Below}
 use Rattle.nb_core.specs.declared.calls.Change.{Change}
 use Rattle.nb_core.specs.declared.calls.Change.TheVariants.{Put, Remove, Add}
 use Rattle.nb_core.specs.declared.calls.Call.{Call}
@@ -27,6 +27,8 @@ holds_of Absent before = is_none before
 holds_of Present before = is_some before
 holds_of (Equal n) None = false
 holds_of (Equal n) (Some m) = m == n
+holds_of (Below n) None = true
+holds_of (Below n) (Some m) = nat_lt m n
 
 -- what the change puts in place of what stands at the key
 abbrev pub changed : Change → Option ℕ → Option ℕ

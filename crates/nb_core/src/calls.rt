@@ -17,6 +17,8 @@ pub enum Want {
     Present,
     /// That the value is this one.
     Equal(Num),
+    /// That there is no value, or a smaller one than this.
+    Below(Num),
 }
 
 impl Want {
@@ -29,6 +31,7 @@ impl Want {
             Want::Absent => before.is_none(),
             Want::Present => before.is_some(),
             Want::Equal(number) => before == Some(number),
+            Want::Below(limit) => before.is_none_or(|number| number < limit),
         }
     }
 }
