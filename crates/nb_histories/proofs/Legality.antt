@@ -172,6 +172,7 @@ is_want_in_range want.Any = true
 is_want_in_range want.Absent = true
 is_want_in_range want.Present = true
 is_want_in_range (want.Equal n) = nat_le n VALUE_MAX
+is_want_in_range (want.Below n) = nat_le n VALUE_MAX
 
 abbrev pub is_change_in_range : Change → Bool
 is_change_in_range (change.Put n) = nat_le n VALUE_MAX

@@ -334,6 +334,7 @@ is_want_in_range-true want.Any e = tt
 is_want_in_range-true want.Absent e = tt
 is_want_in_range-true want.Present e = tt
 is_want_in_range-true (want.Equal n) e = leb-true n VALUE_MAX e
+is_want_in_range-true (want.Below n) e = leb-true n VALUE_MAX e
 
 is_change_in_range-true : (c : Change) → is_change_in_range c ≡ true → IsChangeInRange c
 is_change_in_range-true (change.Put n) e = leb-true n VALUE_MAX e

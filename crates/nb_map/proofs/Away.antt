@@ -23,8 +23,8 @@ use Rattle.nb_map.specs.Refusals.{AreAllTries, HasRefused, IsJust}
 use Rattle.nb_map.specs.Steps.{put_steps}
 use Rattle.nb_map.specs.declared.faults.PutFault.TheVariants.{ValueRange}
 use Rattle.nb_map.specs.declared.faults.PutFault.{PutFault}
-use Rattle.nb_map.specs.declared.steps.slot.Straight.TheVariants.{GoesOn, Made, Overflow}
-use Rattle.nb_map.specs.declared.steps.slot.Straight.{Straight}
+use Rattle.nb_map.specs.declared.map.straight.Straight.TheVariants.{GoesOn, Made, Overflow}
+use Rattle.nb_map.specs.declared.map.straight.Straight.{Straight}
 use Rattle.nb_map.specs.inside.Waiting.{CantOverflow, HasBeenTold, HasClimbed, HasGoneOn, HasGoneStraight, HasLookedInVain, HasYetToWrite, IsStopped, LeavesTries, general_steps}
 
 -- ---- what is left of the tries

@@ -1,13 +1,16 @@
 -- What a seat's calls did to the number of keys.
-use Rattle.std.proofs.Common.{◌≡◌, ◌∙◌, ◌==◌, Bool, true, false, cond, ℕ, List, [], ◌∷◌, ◌++◌, pos, ap, sym, refl, arith}
+use Rattle.std.proofs.Common.{◌≡◌, ◌∙◌, ◌==◌, ◌||◌, Bool, true, false, cond, not, ℕ, List, [], ◌∷◌, ◌++◌, Option, None, Some, pos, ap, sym, refl, arith}
 use Rattle.std.proofs.Math.IntN.{◌+ℤ◌}
 use Rattle.std.proofs.lemmas.Int.{ints}
 use Rattle.nb_core.specs.History.{seat_of_event}
-use Rattle.nb_core.specs.Log.{calls_of, log_of}
-use Rattle.nb_core.specs.Meaning.{net_of, net_of_call}
+use Rattle.nb_core.specs.Calls.{leaves_alone, same_number}
+use Rattle.nb_core.specs.Log.{calls_of, changed, holds_of, log_of, reply_at}
+use Rattle.nb_core.specs.Meaning.{net_of, net_of_call, net_of_change}
 use Rattle.nb_core.specs.Plans.{Plan}
 use Rattle.nb_core.specs.declared.calls.Call.{Call}
-use Rattle.nb_core.specs.declared.calls.Call.TheVariants.{Get}
+use Rattle.nb_core.specs.declared.calls.Call.TheVariants.{Get, Write}
+use Rattle.nb_core.specs.declared.calls.Change.{Change}
+use Rattle.nb_core.specs.declared.calls.Change.TheVariants.{Put, Remove, Add}
 use Rattle.nb_core.specs.declared.calls.Reply.{Reply}
 use Rattle.nb_core.specs.declared.events.Event.{Event}
 use Rattle.nb_core.specs.declared.events.Event.TheVariants.{Claim, Kill, Won, CopyIn, Prime, Finish, Install, Take, Count, Promote, Read}
@@ -94,6 +97,26 @@ pub net-made :
     ≡ net_of made +ℤ net_of (calls_of before.number (log_of before.seen))
 net-made {before = before} {made = made} steps =
     ap net_of (calls-made steps) ∙ net-append made (calls_of before.number (log_of before.seen))
+
+-- a call that leaves its key alone changes nothing in the number of keys
+pub net-alone :
+    (call : Call) (reply : Reply) → reply ≡ reply_at call reply.before
+    → leaves_alone call reply.before ≡ true → net_of_call call reply ≡ pos 0
+net-alone (Get k) reply is alone = refl
+net-alone (Write k want change) reply is alone =
+    ap (λ (r : Reply). cond r.matched (net_of_change change reply.before) (pos 0)) is
+    ∙ net-if (holds_of want reply.before) change reply.before alone
+  where
+    net-if : (b : Bool) (change : Change) (before : Option ℕ)
+        → (not b || same_number (changed change before) before) ≡ true
+        → cond b (net_of_change change before) (pos 0) ≡ pos 0
+    net-if false change before alone = refl
+    net-if true (Put n) None alone = absurd cc
+    net-if true (Put n) (Some m) alone = refl
+    net-if true (Add n) None alone = absurd cc
+    net-if true (Add n) (Some m) alone = refl
+    net-if true Remove None alone = refl
+    net-if true Remove (Some m) alone = absurd cc
 
 -- ---- the seat stays the map's
 

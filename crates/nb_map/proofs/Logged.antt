@@ -1,5 +1,5 @@
 -- The log of a seat after its calls, and what the tries of a write that waits add up to.
-use Rattle.std.proofs.Common.{◌≡◌, ◌∙◌, ◌+◌, ℕ, List, [], ◌++◌, pos, ap, ap₂, refl, subst, sym, arith}
+use Rattle.std.proofs.Common.{◌≡◌, ◌∙◌, ◌+◌, ℕ, ℤ, List, [], ◌++◌, pos, ap, ap₂, refl, subst, sym, arith}
 use Rattle.std.proofs.lemmas.Int.{ints}
 use Rattle.std.proofs.lemmas.List.{append_assoc}
 use Rattle.std.proofs.lemmas.List.Elements.{filter_map-append}
@@ -75,6 +75,13 @@ counted-none count =
     ap₂ (λ added adds. record count { added = added; adds = adds; steps = count.steps + 0 })
     (omega (arith, ints)) (same count.adds)
     ∙ ap (λ steps. record count { steps = steps }) (same count.steps)
+
+-- so nothing was counted of what changed nothing
+pub uncounted :
+    (net : ℤ) (before after : CountSeatOf) → net ≡ pos 0 → after ≡ before
+    → after ≡ accounted net before
+uncounted net before after none same =
+    same ∙ sym (counted-none before) ∙ ap (λ net. accounted net before) (sym none)
 
 -- steps of a call that counted nothing
 pub worked-uncounted :

@@ -37,7 +37,7 @@ use Rattle.nb_map.specs.inside.Writing.{IsDecided}
 use Rattle.nb_map.specs.Progress.{passed_since}
 use Rattle.nb_map.specs.declared.steps.rung.Below.TheVariants.{HasKey}
 use Rattle.nb_map.specs.declared.steps.slot.Attempt.{Attempt}
-use Rattle.nb_map.specs.declared.steps.slot.Attempt.TheVariants.{Told, Overflow, Lost, Copied}
+use Rattle.nb_map.specs.declared.steps.slot.Attempt.TheVariants.{Made, Left, Overflow, Lost, Copied}
 use Rattle.nb_map.specs.declared.steps.slot.Decision.{Decision}
 use Rattle.nb_map.specs.declared.steps.slot.Decision.TheVariants as decision
 use Rattle.nb_core.proofs.Theorems.{beginnings_are_legal, decided, log_is_replayed, lost_exchange, passed_over_adds, passed_settled}
@@ -145,6 +145,13 @@ pub reply-fits :
     → reply ≡ reply_at call reply.before
 reply-fits call number reply is =
     is ∙ ap (reply_at call) (sym (ap (λ (r : Reply). r.before) is ∙ found-before call number))
+
+-- what it leaves as it is, it leaves as its reply tells it
+pub alone-before :
+    (call : Call) (number : Option ℕ) (reply : Reply) → leaves_alone call number ≡ true
+    → reply ≡ reply_at call number → leaves_alone call reply.before ≡ true
+alone-before call number reply alone is =
+    ap (leaves_alone call) (ap (λ (r : Reply). r.before) is ∙ found-before call number) ∙ alone
 
 -- ---- the exchanges that others won
 
@@ -367,7 +374,8 @@ module _ (chain : ChainOf) where
     pub last-made :
         (last : Attempt) → IsWithoutTries call number last
         → HasMade p call start now (made_if_tried call last) (2 + (tries - left))
-    last-made (Told reply) is =
+    last-made (Made reply) is = absurd is
+    last-made (Left reply) is =
         made-within _ _ (omega arith) (tried-left at tried reply is.0 is.1)
     last-made Overflow is = absurd is
     last-made Lost is = made-within _ _ (omega arith) (tried-none at tried is)
@@ -376,8 +384,9 @@ module _ (chain : ChainOf) where
     pub last-tried :
         (last : Attempt) → left ≡ 0 → IsWithoutTries call number last
         → IsTried p call start now slot tries left last
-    last-tried (Told reply) none is =
-        reply-fits call number reply is.1
+    last-tried (Made reply) none is = absurd is
+    last-tried (Left reply) none is =
+        (reply-fits call number reply is.1, alone-before call number reply is.0 is.1)
     last-tried Overflow none is = absurd is
     last-tried Lost none is =
         (omega (arith, tried.spent.lost, none), no-read call number is)

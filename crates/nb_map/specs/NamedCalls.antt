@@ -4,7 +4,7 @@ use Rattle.nb_core.specs.declared.calls.Call.TheVariants.{Write}
 use Rattle.nb_core.specs.declared.calls.Call.{Call}
 use Rattle.nb_core.specs.declared.calls.Change.TheVariants.{Put, Remove, Add}
 use Rattle.nb_core.specs.declared.calls.Change.{Change}
-use Rattle.nb_core.specs.declared.calls.Want.TheVariants.{Any, Absent, Present, Equal}
+use Rattle.nb_core.specs.declared.calls.Want.TheVariants.{Any, Absent, Present, Equal, Below}
 use Rattle.nb_core.specs.declared.calls.Want.{Want}
 
 abbrev pub put_of : (key number : ℕ) → Call
@@ -28,6 +28,16 @@ remove_if_of key number = Write key (Equal number) Remove
 -- an absent number counts as 0
 abbrev pub add_of : (key number : ℕ) → Call
 add_of key number = Write key Any (Add number)
+
+-- the same where the key has no number, or a smaller one than the limit
+abbrev pub put_below_of : (key number limit : ℕ) → Call
+put_below_of key number limit = Write key (Below limit) (Put number)
+
+abbrev pub add_below_of : (key number limit : ℕ) → Call
+add_below_of key number limit = Write key (Below limit) (Add number)
+
+abbrev pub remove_below_of : (key limit : ℕ) → Call
+remove_below_of key limit = Write key (Below limit) Remove
 
 -- the condition that a key is at this number, or absent
 abbrev pub want_of : Option ℕ → Want

@@ -6,6 +6,7 @@ ghost use Rattle.nb_map.specs.Maps.{AreMine, IsMine, new_seats};
 ghost use Rattle.nb_map.specs.Promises.{HasEstimated, HasGot, HasMet, HasSeenTop};
 
 mod answers;
+mod below;
 mod bulk;
 mod compound;
 mod ended;

@@ -22,7 +22,7 @@ pub(crate) fn known(call: &Call)
         Call::Get { key } => key.known(),
         Call::Write { key, want, change } => {
             key.known();
-            if let Want::Equal(number) = want {
+            if let Want::Equal(number) | Want::Below(number) = want {
                 number.known();
             }
             match change {

@@ -46,6 +46,11 @@ fn conditional_calls(rt: HostRuntime) {
         (9, Want::Equal(four), Change::Remove, Some(four), true),
         (10, Want::Equal(four), Change::Remove, None, false),
         (11, Want::Any, Change::Remove, None, true),
+        (12, Want::Below(one), Change::Put(two), None, true),
+        (13, Want::Below(two), Change::Put(four), Some(two), false),
+        (14, Want::Below(three), Change::Add(one), Some(two), true),
+        (15, Want::Below(two), Change::Remove, Some(three), false),
+        (16, Want::Below(four), Change::Remove, Some(three), true),
     ] {
         let reply = map.apply(key, want, change);
         assert!(rt; reply == replied(before, matched), "row {row}");

@@ -109,7 +109,9 @@ IsVisit p call before after g tries left (Above below) = GoesAbove p call after 
 -- final
 abbrev pub IsTried :
     Plan → Call → (before after : SeenBy) → Slot → (tries left : ℕ) → Attempt → Type 0
-IsTried p call before after at tries left (attempt.Told reply) = IsReplied call reply
+IsTried p call before after at tries left (attempt.Made reply) = IsReplied call reply
+IsTried p call before after at tries left (attempt.Left reply) =
+    IsReplied call reply × (leaves_alone call reply.before ≡ true)
 IsTried p call before after at tries left attempt.Overflow =
     IsRefused p call before after tries fault.ValueRange
 IsTried p call before after at tries left attempt.Lost =
@@ -120,7 +122,7 @@ IsTried p call before after at tries left (attempt.Copied word) =
 -- what a call without further tries comes to, which has found this number at its key, or none: it
 -- is made if it leaves that as it is
 abbrev pub IsWithoutTries : Call → Option ℕ → Attempt → Type 0
-IsWithoutTries call found (attempt.Told reply) =
+IsWithoutTries call found (attempt.Left reply) =
     (leaves_alone call found ≡ true) × (reply ≡ reply_at call found)
 IsWithoutTries call found attempt.Lost = leaves_alone call found ≡ false
 IsWithoutTries call found _ = ⊥
@@ -133,7 +135,8 @@ made_by call (Above below) = []
 
 -- the same at its key's slot
 abbrev pub made_if_tried : Call → Attempt → List (Call × Reply)
-made_if_tried call (attempt.Told reply) = (call, reply) ∷ []
+made_if_tried call (attempt.Made reply) = (call, reply) ∷ []
+made_if_tried call (attempt.Left reply) = (call, reply) ∷ []
 made_if_tried call _ = []
 
 -- ---- the search for the key's slot

@@ -1,7 +1,8 @@
 -- Writes come in two parts: a straight way, at the key's home slot, and a general one.
-use Rattle.std.specs.Prelude.{ℕ, [], true, ◌≡◌, ◌⊎◌, ◌+◌, ◌-◌, ◌<◌, ◌≤◌, IfErr, Option, None, Some, Result, Ok, Err}
+use Rattle.std.specs.Prelude.{ℕ, pos, [], true, ◌≡◌, ◌⊎◌, ◌+◌, ◌-◌, ◌<◌, ◌≤◌, IfErr, Option, None, Some, Result, Ok, Err}
 use Rattle.nb_core.specs.Calls.{overflows}
 use Rattle.nb_core.specs.Log.{Numbers}
+use Rattle.nb_core.specs.Meaning.{net_of_call}
 use Rattle.nb_core.specs.Plans.{Plan}
 use Rattle.nb_core.specs.declared.calls.Call.{Call}
 use Rattle.nb_core.specs.declared.calls.Reply.{Reply}
@@ -24,8 +25,10 @@ use Rattle.nb_map.specs.declared.map.answers.Gone.TheVariants as gone
 use Rattle.nb_map.specs.declared.map.answers.Gone.{Gone}
 use Rattle.nb_map.specs.declared.map.answers.Tried.TheVariants as tried
 use Rattle.nb_map.specs.declared.map.answers.Tried.{Tried}
-use Rattle.nb_map.specs.declared.steps.slot.Straight.TheVariants as straight
-use Rattle.nb_map.specs.declared.steps.slot.Straight.{Straight}
+use Rattle.nb_map.specs.declared.map.straight.Straight.TheVariants as straight
+use Rattle.nb_map.specs.declared.map.straight.Straight.{Straight}
+use Rattle.nb_map.specs.declared.steps.slot.AtHome.TheVariants as at_home
+use Rattle.nb_map.specs.declared.steps.slot.AtHome.{AtHome}
 
 -- ---- on the tables
 
@@ -52,14 +55,17 @@ pub record HasLookedInVain (chain : ChainOf) (call : Call) (before after : SeenB
       → IsKnownHome chain.shape before.top call before ⊎ IsLastSeen chain.shape before.top after
       → ⊥
 
--- what the straight way comes to, which begins with one try and has so many left
+-- what the first try at home comes to, which begins with one try and has so many left; what it left
+-- as it was counts nothing
 abbrev pub HasTriedAtHome :
-    ChainOf → Call → (before after : SeenBy) → (left : ℕ) → Straight → Type 0
-HasTriedAtHome chain call before after left (straight.Made reply) =
+    ChainOf → Call → (before after : SeenBy) → (left : ℕ) → AtHome → Type 0
+HasTriedAtHome chain call before after left (at_home.Made reply) =
     HasBeenTold chain.shape call before after (Ok reply)
-HasTriedAtHome chain call before after left straight.Overflow =
+HasTriedAtHome chain call before after left (at_home.Left reply) =
+    HasBeenTold chain.shape call before after (Ok reply) × (net_of_call call reply ≡ pos 0)
+HasTriedAtHome chain call before after left at_home.Overflow =
     HasBeenTold chain.shape call before after (Err fault.ValueRange)
-HasTriedAtHome chain call before after left straight.GoesOn =
+HasTriedAtHome chain call before after left at_home.GoesOn =
     HasLookedInVain chain call before after (1 - left)
 
 -- the most steps of the general way, where others won so many exchanges on the key: the load of the

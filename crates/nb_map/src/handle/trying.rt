@@ -3,7 +3,7 @@
 ghost use Rattle.std.specs.Prelude.{Option, max, unwrap_or, ℕ, ◌≡◌};
 ghost use Rattle.nb_core.specs.declared.calls.Call.TheVariants as call;
 ghost use Rattle.nb_map.specs.Handles.{KeepsRest};
-ghost use Rattle.nb_map.specs.NamedCalls.{add_of, exchange_of, put_if_absent_of, put_of, remove_of};
+ghost use Rattle.nb_map.specs.NamedCalls.{add_below_of, add_of, exchange_of, put_below_of, put_if_absent_of, put_of, remove_below_of, remove_of};
 ghost use Rattle.nb_map.specs.Progress.{Tries};
 ghost use Rattle.nb_map.specs.Promises.{HasGot, HasWritten, found_or_refused, replied_or_refused};
 ghost use Rattle.nb_map.specs.Updating.{IsUpdate};
@@ -78,6 +78,56 @@ impl Handle {
         self.shared
             .map
             .try_remove(&mut self.seat, key, tries.max(1))
+    }
+
+    /// `Map::try_put_below`.
+    pub fn try_put_below(
+        &mut self,
+        key: Key,
+        number: Num,
+        limit: Num,
+        tries: u32,
+    ) -> Result<Option<Num>, PutFault>
+        ensures wrote { HasWritten self.old.map (put_below_of key number limit)
+            self.old.seat self.new.seat (Tries (max tries 1)) (found_or_refused result) }
+        ensures rest { KeepsRest self.old self.new }
+    {
+        self.shared
+            .map
+            .try_put_below(&mut self.seat, key, number, limit, tries.max(1))
+    }
+
+    /// `Map::try_add_below`.
+    pub fn try_add_below(
+        &mut self,
+        key: Key,
+        number: Num,
+        limit: Num,
+        tries: u32,
+    ) -> Result<Option<Num>, PutFault>
+        ensures wrote { HasWritten self.old.map (add_below_of key number limit)
+            self.old.seat self.new.seat (Tries (max tries 1)) (found_or_refused result) }
+        ensures rest { KeepsRest self.old self.new }
+    {
+        self.shared
+            .map
+            .try_add_below(&mut self.seat, key, number, limit, tries.max(1))
+    }
+
+    /// `Map::try_remove_below`.
+    pub fn try_remove_below(
+        &mut self,
+        key: Key,
+        limit: Num,
+        tries: u32,
+    ) -> Result<Option<Num>, PutFault>
+        ensures wrote { HasWritten self.old.map (remove_below_of key limit)
+            self.old.seat self.new.seat (Tries (max tries 1)) (found_or_refused result) }
+        ensures rest { KeepsRest self.old self.new }
+    {
+        self.shared
+            .map
+            .try_remove_below(&mut self.seat, key, limit, tries.max(1))
     }
 
     /// `Map::compare_exchange`.

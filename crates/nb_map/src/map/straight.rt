@@ -10,9 +10,20 @@ ghost use Rattle.nb_map.specs.inside.Waiting.{HasGoneStraight};
 
 use crate::map::{Map, Seat};
 use crate::steps::pause::{NoPause, spin};
-use crate::steps::slot::{Straight, write_home};
+use crate::steps::slot::{AtHome, write_home};
 use nb_core::{Call, Change, Key, Reply, Want};
 use nb_count::CountSeat;
+
+/// What the straight way of a write comes to.
+#[derive(Clone, Copy)]
+pub(super) enum Straight {
+    /// It is made, and this is its reply.
+    Made(Reply),
+    /// It would put a number past the greatest one, and is refused.
+    Overflow,
+    /// It has to go on by the general way.
+    GoesOn,
+}
 
 impl Map {
     /// The straight way of a write, its first try, and the count of what it did to the number of
@@ -39,15 +50,18 @@ impl Map {
         let call = Call::Write { key, want, change };
         let mut left = 1;
         match write_home(&self.chain, &mut seat.chain, &call, &mut left, &mut NoPause) {
-            Straight::Made(reply) => {
-                if left == 0 {
-                    spin();
-                }
+            AtHome::Made(reply) => {
                 self.count(&mut seat.count, &change, &reply);
                 Straight::Made(reply)
             }
-            Straight::Overflow => Straight::Overflow,
-            Straight::GoesOn => {
+            AtHome::Left(reply) => {
+                if left == 0 {
+                    spin();
+                }
+                Straight::Made(reply)
+            }
+            AtHome::Overflow => Straight::Overflow,
+            AtHome::GoesOn => {
                 *tries -= 1 - left;
                 Straight::GoesOn
             }

@@ -14,9 +14,9 @@ ghost use Rattle.nb_map.specs.inside.Waiting.{HasGoneOn, answer_of_tried};
 
 use crate::faults::PutFault;
 use crate::map::answers::Tried;
+use crate::map::straight::Straight;
 use crate::map::{Map, Seat};
 use crate::steps::pause::NoPause;
-use crate::steps::slot::Straight;
 use crate::steps::write::write_above;
 use nb_core::{Call, Change, Key, Num, Reply, Want};
 
@@ -237,7 +237,7 @@ impl Map {
 
     /// Goes on with a write, and tells what it found.
     #[inline(always)]
-    fn find_above(&self, seat: &mut Seat, key: Key, want: Want, change: Change, tries: u32) -> Tried
+    pub(super) fn find_above(&self, seat: &mut Seat, key: Key, want: Want, change: Change, tries: u32) -> Tried
         requires own { IsMine self.now seat.old }
         ensures { HasGoneOn self.now (call.Write key want change) seat.old seat.new (Tries tries)
             (found_or_refused (answer_of_tried result)) }

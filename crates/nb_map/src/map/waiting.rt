@@ -16,9 +16,9 @@ ghost use Rattle.nb_map.specs.inside.Waiting.{HasGoneOn, answer_of_added, answer
 
 use crate::faults::{AddFault, Full};
 use crate::map::answers::{Added, Gone};
+use crate::map::straight::Straight;
 use crate::map::{Map, Seat};
 use crate::steps::pause::spin;
-use crate::steps::slot::Straight;
 use nb_core::{Change, Key, Num, Want};
 use std::sync::Wait;
 

@@ -2,10 +2,12 @@
 //! there.
 ghost use Rattle.std.specs.Prelude.{IfSome, Some, [], ℕ, ◌+◌, ◌-◌, ◌≡◌, ◌≤◌};
 ghost use Rattle.nb_core.specs.Calls.{same_number};
+ghost use Rattle.nb_core.specs.Log.{holds_of};
 ghost use Rattle.nb_core.specs.States.{shown_by_value};
 ghost use Rattle.nb_core.specs.Tables.{IsSlot, IsUnprimed};
 ghost use Rattle.nb_core.specs.declared.calls.Call.TheVariants as call;
 ghost use Rattle.nb_core.specs.declared.calls.Call.{Call};
+ghost use Rattle.nb_core.specs.declared.calls.Want.TheVariants as want;
 ghost use Rattle.nb_core.specs.declared.numbers.TheConstants.{VALUE_MAX};
 ghost use Rattle.nb_core.specs.declared.states.KeyState.TheVariants as key_is;
 ghost use Rattle.nb_table.specs.Chains.{IsOwn, seen_by};
@@ -19,14 +21,16 @@ use crate::faults::PutFault;
 use crate::steps::pause::Pause;
 use crate::steps::rung::{Below, Visit};
 use nb_copy::copy_and_count;
-use nb_core::{Call, KeyState, Num, Reply, Slot, ValueState, ValueWord};
+use nb_core::{Call, KeyState, Num, Reply, Slot, ValueState, ValueWord, Want};
 use nb_table::{Chain, ChainSeat};
 
-/// What the straight way of a write comes to.
+/// What the first try of a write comes to, at home.
 #[derive(Clone, Copy)]
-pub(crate) enum Straight {
-    /// It is made, and this is its reply.
+pub(crate) enum AtHome {
+    /// It is made by an exchange that it won, and this is its reply.
     Made(Reply),
+    /// It is made, and this is its reply: it leaves what is there as it is.
+    Left(Reply),
     /// It would put a number past the greatest one, and is refused.
     Overflow,
     /// It has to go on by the general way.
@@ -46,7 +50,7 @@ pub(crate) fn write_home<P: Pause>(
     call: &Call,
     left: &mut u32,
     pause: &mut P,
-) -> Straight
+) -> AtHome
     requires own { IsOwn chain.now seat.old }
     requires serves { P.serves pause.old chain.now }
     ensures tried { HasTriedAtHome chain.now call.now seat.old seat.new left.new result }
@@ -60,37 +64,40 @@ pub(crate) fn write_home<P: Pause>(
     // First, whether it is the key's, as it is mostly.
     if !word.is(call.key()) {
         if !word.is_empty() {
-            return Straight::GoesOn;
+            return AtHome::GoesOn;
         }
         if let Decision::Leave(reply) = decide(call, &None, &None) {
-            return Straight::Made(reply);
+            return AtHome::Left(reply);
         }
         if top + 1 < chain.shape().generations() && chain.load_next(seat, top, None) {
-            return Straight::GoesOn;
+            return AtHome::GoesOn;
         }
         match chain.claim_key_at(seat, home, call.key()) {
             KeyState::Empty => {}
-            KeyState::Dead => return Straight::GoesOn,
+            KeyState::Dead => return AtHome::GoesOn,
             KeyState::Claimed(other) => {
                 if other != call.key() {
-                    return Straight::GoesOn;
+                    return AtHome::GoesOn;
                 }
             }
         }
     }
     match try_at(chain, seat, call, home, left, pause) {
-        Attempt::Told(reply) => Straight::Made(reply),
-        Attempt::Overflow => Straight::Overflow,
-        Attempt::Lost => Straight::GoesOn,
-        Attempt::Copied(_) => Straight::GoesOn,
+        Attempt::Made(reply) => AtHome::Made(reply),
+        Attempt::Left(reply) => AtHome::Left(reply),
+        Attempt::Overflow => AtHome::Overflow,
+        Attempt::Lost => AtHome::GoesOn,
+        Attempt::Copied(_) => AtHome::GoesOn,
     }
 }
 
 /// What a call comes to at its key's slot in a table.
 #[derive(Clone, Copy)]
 pub(crate) enum Attempt {
-    /// It is made, and this is its reply.
-    Told(Reply),
+    /// It is made by an exchange that it won, and this is its reply.
+    Made(Reply),
+    /// It is made, and this is its reply: it leaves what is there as it is.
+    Left(Reply),
     /// It would put a number past the greatest one.
     Overflow,
     /// It has lost its last try.
@@ -121,7 +128,7 @@ pub(crate) fn call_at<P: Pause>(
     ensures serves { P.serves pause.new chain.now }
 {
     match try_at(chain, seat, call, slot, tries, pause) {
-        Attempt::Told(reply) => Visit::Told(reply),
+        Attempt::Made(reply) | Attempt::Left(reply) => Visit::Told(reply),
         Attempt::Overflow => Visit::Refused(PutFault::ValueRange),
         Attempt::Lost => Visit::Refused(PutFault::Contended),
         Attempt::Copied(word) => {
@@ -156,12 +163,12 @@ pub(crate) fn try_at<P: Pause>(
     let mut from = chain.load_value_word_at(seat, slot, Some(*call));
     while let Some(number) = from.shows() {
         match decide(call, &number, &Some(from)) {
-            Decision::Leave(reply) => return Attempt::Told(reply),
+            Decision::Leave(reply) => return Attempt::Left(reply),
             Decision::Overflow => return Attempt::Overflow,
             Decision::Exchange(to) => {
                 pause.before_exchange(chain);
                 let Err(found) = chain.win_value_at(seat, slot, *call, from, to) else {
-                    return Attempt::Told(Reply {
+                    return Attempt::Made(Reply {
                         before: number,
                         matched: true,
                     });
@@ -186,7 +193,7 @@ fn without_tries(call: &Call, found: &Option<Num>) -> Attempt
     ensures { IsWithoutTries call.now found.now result }
 {
     match decide(call, found, &None) {
-        Decision::Leave(reply) => Attempt::Told(reply),
+        Decision::Leave(reply) => Attempt::Left(reply),
         _ => Attempt::Lost,
     }
 }
@@ -243,6 +250,31 @@ fn is_same(number: &Option<Num>, from: &Option<ValueWord>, after: &Option<Num>) 
     }
 }
 
+/// Whether there is no number, or a smaller one than the limit. Where the value's word is at hand,
+/// words are compared: one that holds no number is below each that does, so this is one comparison.
+#[inline(always)]
+fn is_below(number: &Option<Num>, from: &Option<ValueWord>, limit: Num) -> bool
+    requires shown { IfSome from.now (λ word. shown_by_value word ≡ Some number.now) }
+    ensures { result ≡ holds_of (want.Below limit) number.now }
+{
+    match from {
+        Some(word) => word.get() < ValueWord::of(ValueState::Live(limit)).get(),
+        None => Want::Below(limit).holds_of(*number),
+    }
+}
+
+/// Whether the condition holds of this number, or none, whose value has this word, if one is given.
+#[inline(always)]
+fn holds(want: &Want, number: &Option<Num>, from: &Option<ValueWord>) -> bool
+    requires shown { IfSome from.now (λ word. shown_by_value word ≡ Some number.now) }
+    ensures { result ≡ holds_of want.now number.now }
+{
+    match *want {
+        Want::Below(limit) => is_below(number, from, limit),
+        other => other.holds_of(*number),
+    }
+}
+
 /// What the call does where its key has this number, or none, and its value this word, if one is
 /// given.
 #[inline(always)]
@@ -257,7 +289,7 @@ pub(crate) fn decide(call: &Call, number: &Option<Num>, from: &Option<ValueWord>
             matched: true,
         });
     };
-    let matched = want.holds_of(*number);
+    let matched = holds(&want, number, from);
     if !matched {
         return Decision::Leave(Reply {
             before: *number,

@@ -13,7 +13,7 @@ use crate::faults::{AddFault, PutFault};
 use crate::steps::climb::climb;
 use crate::steps::pause::{Pause, Rest};
 use crate::steps::rung::Rung;
-use crate::steps::slot::{Straight, write_home};
+use crate::steps::slot::{AtHome, write_home};
 use nb_core::{Call, Change, Key, Reply, Want};
 use nb_table::{Chain, ChainSeat};
 use std::sync::Wait;
@@ -49,9 +49,9 @@ pub fn put_if_match_in<P: Pause>(
     let call = Call::Write { key, want, change };
     let mut left = 1;
     match write_home(chain, seat, &call, &mut left, pause) {
-        Straight::Made(reply) => Ok(reply),
-        Straight::Overflow => Err(PutFault::ValueRange),
-        Straight::GoesOn => {
+        AtHome::Made(reply) | AtHome::Left(reply) => Ok(reply),
+        AtHome::Overflow => Err(PutFault::ValueRange),
+        AtHome::GoesOn => {
             if left == 0 && 1 < tries {
                 pause.after_loss(chain);
             }

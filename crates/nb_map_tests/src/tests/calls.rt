@@ -77,9 +77,33 @@ const CALLS_THAT_TRY: [Row; 31] = [
     (4, RemoveEqual(10), Replied(Some(10), true)),
 ];
 
+/// Writes below a limit: an absent key is below any, and a number below a greater one alone. What
+/// isn't below stays as it is, also where the sum would be past the greatest number.
+const BELOW_A_LIMIT: [Row; 19] = [
+    (5, TryPutBelow(1, 0), Nothing),
+    (5, TryPutBelow(6, 0), Was(1)),
+    (5, TryPutBelow(6, 1), Was(1)),
+    (5, TryPutBelow(7, 2), Was(1)),
+    (5, TryAddBelow(2, 7), Was(7)),
+    (5, TryAddBelow(2, 8), Was(7)),
+    (5, TryAddBelow(VALUE_MAX, 9), Was(9)),
+    (5, TryAddBelow(VALUE_MAX, 10), PAST),
+    (5, TryRemoveBelow(9), Was(9)),
+    (0, Estimate, Was(1)),
+    (5, TryRemoveBelow(10), Was(9)),
+    (5, TryRemoveBelow(10), Nothing),
+    (0, Estimate, Was(0)),
+    (5, TryAddBelow(3, 0), Nothing),
+    (5, PutBelow(4, 3), Replied(Some(3), false)),
+    (5, PutBelow(4, VALUE_MAX), Replied(Some(3), true)),
+    (5, TryPutBelow(VALUE_MAX, VALUE_MAX), Was(4)),
+    (5, TryPutBelow(0, VALUE_MAX), Was(VALUE_MAX)),
+    (6, TryPutBelow(1, 1), Nothing),
+];
+
 /// A full table has no slot for another key, also where a key was removed, whose slot stays its
 /// own. A write that has nothing to replace isn't refused.
-const FULL_TABLE: [Row; 27] = [
+const FULL_TABLE: [Row; 33] = [
     (0, Put(10), Nothing),
     (1, Put(11), Nothing),
     (2, Put(12), Nothing),
@@ -92,6 +116,8 @@ const FULL_TABLE: [Row; 27] = [
     (4, TryPut(1), FULL),
     (4, TryPutIfAbsent(1), FULL),
     (4, TryAdd(1, 1), FULL),
+    (4, TryPutBelow(1, 9), FULL),
+    (4, TryAddBelow(1, 9), FULL),
     (4, Exchange(None, Some(1)), FULL),
     (4, OneMore(1), FULL),
     (4, Max(1, 1), FULL),
@@ -101,6 +127,10 @@ const FULL_TABLE: [Row; 27] = [
     (4, Replace(1), Nothing),
     (4, Remove, Nothing),
     (4, TryRemove, Nothing),
+    (4, TryRemoveBelow(9), Nothing),
+    (0, TryPutBelow(9, 10), Was(10)),
+    (1, TryAddBelow(9, 11), Was(11)),
+    (3, TryRemoveBelow(13), Was(13)),
     (0, PutIfAbsent(9), Was(10)),
     (0, ReplaceIf(10, 9), Is(true)),
     (0, TryAdd(VALUE_MAX, 1), PAST),
@@ -155,7 +185,7 @@ const KEY_TWICE: [(u64, u64); 5] = [(0, 1), (1, 2), (2, 3), (3, 4), (0, 5)];
 
 /// Each call by a handle. `Percent` tells what part of the slots is taken; more looks at how full a
 /// map is are in `languages/c/tests/rows.c`.
-const STORIES: [Story; 8] = [
+const STORIES: [Story; 9] = [
     (
         (2, 2, 1, 1),
         &[],
@@ -163,6 +193,12 @@ const STORIES: [Story; 8] = [
         &[(1, VALUE_MAX), (2, 0), (6, 10)],
     ),
     ((2, 2, 1, 1), &[], &CALLS_THAT_TRY, &[(1, 7), (2, 5)]),
+    (
+        (2, 2, 1, 1),
+        &[],
+        &BELOW_A_LIMIT,
+        &[(5, VALUE_MAX), (6, 1)],
+    ),
     (
         (2, 1, 1, 1),
         &[],

@@ -30,6 +30,11 @@ pub(super) enum Call {
     TryPutIfAbsent(u64),
     TryAdd(u64, u32),
     TryRemove,
+    /// Those from here on to `PutBelow` are made below the limit that is their last number.
+    TryPutBelow(u64, u64),
+    TryAddBelow(u64, u64),
+    TryRemoveBelow(u64),
+    PutBelow(u64, u64),
     Exchange(Option<u32>, Option<u32>),
     OneMore(u32),
     Max(u64, u32),
@@ -127,6 +132,29 @@ pub(super) fn one_more(number: Option<Num>) -> Option<Num> {
     Num::new(before.saturating_add(1)).ok()
 }
 
+/// Makes a call that waits for nobody and is made below a limit, or one of the whole map.
+fn tries_below<R: Wait + Abort + AllocGlobal>(
+    rt: &R,
+    handle: &mut Handle,
+    at: Key,
+    call: Call,
+) -> Answer {
+    match call {
+        TryPutBelow(n, limit) => {
+            found(handle.try_put_below(at, number(rt, n), number(rt, limit), 1))
+        }
+        TryAddBelow(n, limit) => {
+            found(handle.try_add_below(at, number(rt, n), number(rt, limit), 1))
+        }
+        TryRemoveBelow(limit) => found(handle.try_remove_below(at, number(rt, limit), 1)),
+        PutBelow(n, limit) => {
+            let want = Want::Below(number(rt, limit));
+            replied(handle.put_if_match(at, want, Change::Put(number(rt, n)), 1))
+        }
+        _ => Is(comes(rt, handle, call)),
+    }
+}
+
 /// Makes a call that waits for nobody, or one of the whole map.
 fn tries<R: Wait + Abort + AllocGlobal>(
     rt: &R,
@@ -162,7 +190,7 @@ fn tries<R: Wait + Abort + AllocGlobal>(
             let want = Want::Equal(number(rt, n));
             replied(handle.put_if_match(at, want, Change::Remove, 1))
         }
-        _ => Is(comes(rt, handle, call)),
+        _ => tries_below(rt, handle, at, call),
     }
 }
 

@@ -1,15 +1,17 @@
 use Rattle.std.proofs.Common.{ℕ, ◌+◌, ◌-◌, ◌≤◌, arith, refl, subst₂, sym}
+use Rattle.nb_core.specs.Meaning.{net_of_call}
 use Rattle.nb_core.specs.declared.calls.Call.TheVariants as call
 use Rattle.nb_map.proofs.Away.{away_straight, made_straight, stopped_straight}
+use Rattle.nb_map.proofs.Logged.{uncounted}
 use Rattle.nb_map.specs.Maps.{IsMine, SeatOf}
 use Rattle.nb_map.specs.Progress.{Limit, Tries, Unlimited, within}
 use Rattle.nb_map.specs.Promises.{HasWritten, Refused, Replied}
 use Rattle.nb_map.specs.declared.faults.PutFault.TheVariants.{ValueRange}
 use Rattle.nb_map.specs.inside.Waiting.{HasYetToWrite, LeavesTries}
 use Rattle.nb_map.proofs.map.Map.write_straight.Goals as goal
-use Rattle.nb_map.proofs.map.Map.write_straight.Goals.{After-count, In-Overflow, In-GoesOn}
+use Rattle.nb_map.proofs.map.Map.write_straight.Goals.{After-count, In-Left, In-Overflow, In-GoesOn}
 
--- ---- it is made
+-- ---- an exchange is won
 
 made :
     (c : After-count) (limit : Limit) → ((passed : ℕ) → 1 ≤ within limit (passed + 1))
@@ -24,14 +26,42 @@ made c limit some =
     (subst₂ IsMine (sym c.self.view_is) (sym c.seat.view_is) c.requires.own) c.in-Made.reply
     c.in-Made.ensures.tried c.count.ensures)
 
+pub returns-in-Made-clause-tries : goal.returns-in-Made-clause-tries
+returns-in-Made-clause-tries c =
+    made (goal.at.returns-in-Made-clause-tries c).After-count (Tries c.args.tries.now)
+    (λ passed. omega (arith, c.requires.some))
+
+pub returns-in-Made-clause-waits : goal.returns-in-Made-clause-waits
+returns-in-Made-clause-waits c =
+    made (goal.at.returns-in-Made-clause-waits c).After-count Unlimited (λ passed. omega arith)
+
+-- ---- what is there is left as it is
+
+left-alone :
+    (c : In-Left) (limit : Limit) → ((passed : ℕ) → 1 ≤ within limit (passed + 1))
+    → HasWritten c.args.self.now (call.Write c.args.key c.args.want c.args.change) c.args.seat.now
+    (record { chain = c.write_home.new.seat; count = c.seat.inside.count }) limit
+    (Replied c.in-Left.reply)
+left-alone c limit some =
+    let count = c.seat.inside.count in
+    let after : SeatOf = record { chain = c.write_home.new.seat; count = count } in
+    let write = call.Write c.args.key c.args.want c.args.change in
+    subst₂ (λ map before. HasWritten map write before after limit (Replied c.in-Left.reply))
+    c.self.view_is c.seat.view_is
+    (made_straight {after = after} limit some
+    (subst₂ IsMine (sym c.self.view_is) (sym c.seat.view_is) c.requires.own) c.in-Left.reply
+    c.in-Left.ensures.tried.0
+    (uncounted (net_of_call write c.in-Left.reply) count count c.in-Left.ensures.tried.1 refl))
+
 pub returns-after-left-eq0-clause-tries : goal.returns-after-left-eq0-clause-tries
 returns-after-left-eq0-clause-tries c =
-    made (goal.at.returns-after-left-eq0-clause-tries c).After-count (Tries c.args.tries.now)
+    left-alone (goal.at.returns-after-left-eq0-clause-tries c).In-Left (Tries c.args.tries.now)
     (λ passed. omega (arith, c.requires.some))
 
 pub returns-after-left-eq0-clause-waits : goal.returns-after-left-eq0-clause-waits
 returns-after-left-eq0-clause-waits c =
-    made (goal.at.returns-after-left-eq0-clause-waits c).After-count Unlimited (λ passed. omega arith)
+    left-alone (goal.at.returns-after-left-eq0-clause-waits c).In-Left Unlimited
+    (λ passed. omega arith)
 
 -- ---- it is refused
 

@@ -45,7 +45,7 @@ returns-in-Err c =
     let number = c.args.number.now in
     let want = c.in-Write.want in
     let change = c.in-Write.change in
-    let holds : holds_of want number ≡ true = sym c.holds_of-matched.ensures
+    let holds : holds_of want number ≡ true = sym c.holds-matched.ensures
     ∙ c.if-not-matched.false in
     let past = failed (is_past_max (changed change number)) _ _ _ (sym c.changed.ensures
     ∙ c.in-Err.is) in

@@ -13,12 +13,13 @@ use Rattle.nb_map.specs.declared.faults.PutFault.TheVariants.{ValueRange}
 use Rattle.nb_map.specs.declared.faults.PutFault.{PutFault}
 use Rattle.nb_map.specs.inside.Waiting.{HasLookedInVain}
 use Rattle.nb_map.specs.inside.Writing.{IsDecided}
+use Rattle.nb_map.proofs.Counted.{net-alone}
 use Rattle.nb_map.proofs.Claimed.{HasNoNext, claimed-empty, dead-empty, last-table, none-seen}
 use Rattle.nb_map.proofs.HomeSlot.{HasHome, HasLooked, at-home-slot, goes-on, lost-claim, lost-here, lost-home, mine, other-home, primed-here, still-installed, told-here, was-home, way-home, won-home}
 use Rattle.nb_map.proofs.Made.{made-none, made-own, made-quiet, made-read, made-within}
 use Rattle.nb_map.proofs.OnPath.{load-on_path, slot-of_path, slot-on_path, slot-reached}
 use Rattle.nb_map.proofs.Straight.{at-known, told-there}
-use Rattle.nb_map.proofs.Tried.{acts-unless}
+use Rattle.nb_map.proofs.Tried.{acts-unless, alone-before, reply-fits}
 use Rattle.nb_map.proofs.steps.slot.write_home.Given.{Over}
 use Rattle.nb_map.proofs.steps.slot.write_home.Goals as goal
 use Rattle.nb_table.proofs.Theorems.{steps_add_up}
@@ -85,7 +86,8 @@ returns-in-Leave-clause-tried g c =
     let shown = load-on_path call c.load_key_word_at-word.result
     (slot-of_path c.shape.ensures c.key.ensures c.path.ensures c.slot-home.ensures)
     c.load_key_word_at-word.ensures.grows in
-    let told : Result Reply PutFault = Ok c.in-Leave.reply in
+    let reply = c.in-Leave.reply in
+    let told : Result Reply PutFault = Ok reply in (
     told-there chain c.known_top-top.result c.requires.own c.known_top-top.ensures 1 told
     (made-within 1 _ (omega arith)
     (subst (λ made. HasMade p call old c.load_key_word_at-word.new.seat made 1)
@@ -95,7 +97,10 @@ returns-in-Leave-clause-tried g c =
     (subst (λ s. Extended p old c.load_key_word_at-word.new.seat (read old.number call
     (shown_by_key p c.known_top-top.result home s (key_of_call call))) 1) empty shown))))
     tt (omega (arith, load)) (λ alone known. omega (arith, load))
-    (λ alone last. omega (arith, load))
+    (λ alone last. omega (arith, load)),
+    net-alone call reply (reply-fits call None reply left.1)
+    (alone-before call None reply left.0 left.1),
+    )
 
 -- ---- it is empty, and the write puts a number at an absent key
 
@@ -248,12 +253,22 @@ try_at-requires-clause-at g c =
     let look = looked g at.After-load_key_word_at-word in
     at-home-slot c.args.chain.now look (home g at.Joined-not-is look)
 
-pub returns-in-Told-clause-tried : goal.returns-in-Told-clause-tried
-returns-in-Told-clause-tried g c =
-    let at = goal.at.returns-in-Told-clause-tried g c in
+pub returns-in-Made-clause-tried : goal.returns-in-Made-clause-tried
+returns-in-Made-clause-tried g c =
+    let at = goal.at.returns-in-Made-clause-tried g c in
     let look = looked g at.After-load_key_word_at-word in
-    told-here c.args.chain.now look (home g at.Joined-not-is look) (Ok c.in-Told.reply)
-    c.in-Told.ensures.made c.in-Told.ensures.spent tt
+    told-here c.args.chain.now look (home g at.Joined-not-is look) (Ok c.in-Made.reply)
+    c.in-Made.ensures.made c.in-Made.ensures.spent tt
+
+pub returns-in-Left-clause-tried : goal.returns-in-Left-clause-tried
+returns-in-Left-clause-tried g c =
+    let at = goal.at.returns-in-Left-clause-tried g c in
+    let look = looked g at.After-load_key_word_at-word in
+    let tried = c.in-Left.ensures.tried in (
+      told-here c.args.chain.now look (home g at.Joined-not-is look) (Ok c.in-Left.reply)
+          c.in-Left.ensures.made c.in-Left.ensures.spent tt,
+      net-alone c.args.call.now c.in-Left.reply tried.0 tried.1,
+    )
 
 pub returns-in-Overflow-clause-tried : goal.returns-in-Overflow-clause-tried
 returns-in-Overflow-clause-tried g c =

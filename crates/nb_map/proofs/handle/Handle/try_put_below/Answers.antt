@@ -1,0 +1,5 @@
+use Rattle.nb_map.proofs.handle.Handle.try_put_below.Goals as goal
+
+pub returns-clause-wrote : goal.returns-clause-wrote
+returns-clause-wrote c =
+    rw (← c.self.view_is, ← c.deref.ensures, ← c.max.ensures) c.try_put_below.ensures

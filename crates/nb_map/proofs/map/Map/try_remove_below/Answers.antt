@@ -1,0 +1,11 @@
+use Rattle.std.proofs.Common.{rules}
+use Rattle.nb_map.proofs.Away.{goes_on, gone_on}
+use Rattle.nb_map.proofs.map.Map.try_remove_below.Goals as goal
+use Rattle.nb_map.specs.NamedCalls.{remove_below_of}
+use Rattle.nb_map.specs.inside.Waiting.{CantOverflow}
+
+pub returns : goal.returns
+returns c =
+    let sumless : CantOverflow (remove_below_of c.args.key c.args.limit) = search rules in
+    gone_on (goes_on _ _ _ _ _ _ _ sumless c.write_straight-told.ensures.tries c.in_default.not-Made) _
+    (rw c.answer.ensures c.try_remove_below_general.ensures)
