@@ -49,7 +49,8 @@ pub fn put_if_match_in<P: Pause>(
     let call = Call::Write { key, want, change };
     let mut left = 1;
     match write_home(chain, seat, &call, &mut left, pause) {
-        AtHome::Made(reply) | AtHome::Left(reply) => Ok(reply),
+        AtHome::Made(reply) => Ok(reply),
+        AtHome::Left(reply) => Ok(reply),
         AtHome::Overflow => Err(PutFault::ValueRange),
         AtHome::GoesOn => {
             if left == 0 && 1 < tries {

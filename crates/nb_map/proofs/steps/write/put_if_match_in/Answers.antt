@@ -13,6 +13,12 @@ returns-in-Made-clause-made g c =
     made-within _ _
     (put-rises c.args.chain.now.shape 1 _ (omega (arith, c.requires.some))) c.in-Made.ensures.tried.made
 
+pub returns-in-Left-clause-made : goal.returns-in-Left-clause-made
+returns-in-Left-clause-made g c =
+    made-within _ _
+    (put-rises c.args.chain.now.shape 1 _ (omega (arith, c.requires.some)))
+    c.in-Left.ensures.tried.0.made
+
 pub returns-in-Overflow-clause-made : goal.returns-in-Overflow-clause-made
 returns-in-Overflow-clause-made g c =
     made-within _ _
