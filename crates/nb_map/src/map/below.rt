@@ -32,8 +32,13 @@ impl Map {
             (Tries tries) (found_or_refused result) }
     {
         let mut left = tries;
-        let told =
-            self.write_straight(seat, key, Want::Below(limit), Change::Put(number), &mut left);
+        let told = self.write_straight(
+            seat,
+            key,
+            Want::Below(limit),
+            Change::Put(number),
+            &mut left,
+        );
         if let Straight::Made(reply) = told {
             return Ok(reply.before);
         }
@@ -77,7 +82,13 @@ impl Map {
             (Tries tries) (found_or_refused result) }
     {
         let mut left = tries;
-        match self.write_straight(seat, key, Want::Below(limit), Change::Add(number), &mut left) {
+        match self.write_straight(
+            seat,
+            key,
+            Want::Below(limit),
+            Change::Add(number),
+            &mut left,
+        ) {
             Straight::Made(reply) => Ok(reply.before),
             Straight::Overflow => Err(PutFault::ValueRange),
             Straight::GoesOn => self

@@ -49,7 +49,8 @@ impl Map {
     {
         let call = Call::Write { key, want, change };
         let mut left = 1;
-        match write_home(&self.chain, &mut seat.chain, &call, &mut left, &mut NoPause) {
+        let home = write_home(&self.chain, &mut seat.chain, &call, &mut left, &mut NoPause);
+        match home.joined_of(&change) {
             AtHome::Made(reply) => {
                 self.count(&mut seat.count, &change, &reply);
                 Straight::Made(reply)

@@ -237,7 +237,14 @@ impl Map {
 
     /// Goes on with a write, and tells what it found.
     #[inline(always)]
-    pub(super) fn find_above(&self, seat: &mut Seat, key: Key, want: Want, change: Change, tries: u32) -> Tried
+    pub(super) fn find_above(
+        &self,
+        seat: &mut Seat,
+        key: Key,
+        want: Want,
+        change: Change,
+        tries: u32,
+    ) -> Tried
         requires own { IsMine self.now seat.old }
         ensures { HasGoneOn self.now (call.Write key want change) seat.old seat.new (Tries tries)
             (found_or_refused (answer_of_tried result)) }

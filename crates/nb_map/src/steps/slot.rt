@@ -10,7 +10,7 @@ ghost use Rattle.nb_core.specs.declared.calls.Call.{Call};
 ghost use Rattle.nb_core.specs.declared.calls.Want.TheVariants as want;
 ghost use Rattle.nb_core.specs.declared.numbers.TheConstants.{VALUE_MAX};
 ghost use Rattle.nb_core.specs.declared.states.KeyState.TheVariants as key_is;
-ghost use Rattle.nb_table.specs.Chains.{IsOwn, seen_by};
+ghost use Rattle.nb_table.specs.Chains.{ChainOf, IsOwn, SeenBy, seen_by};
 ghost use Rattle.nb_map.specs.Calling.{HasMade};
 ghost use Rattle.nb_map.specs.Steps.{pass_steps, slot_visit_steps};
 ghost use Rattle.nb_map.specs.inside.Climbing.{IsAbove, IsAtSlot, IsSpent, IsTried, IsVisit, IsWithoutTries, made_by, made_if_tried};
@@ -21,7 +21,7 @@ use crate::faults::PutFault;
 use crate::steps::pause::Pause;
 use crate::steps::rung::{Below, Visit};
 use nb_copy::copy_and_count;
-use nb_core::{Call, KeyState, Num, Reply, Slot, ValueState, ValueWord, Want};
+use nb_core::{Call, Change, KeyState, Num, Reply, Slot, ValueState, ValueWord, Want};
 use nb_table::{Chain, ChainSeat};
 
 /// What the first try of a write comes to, at home.
@@ -35,6 +35,22 @@ pub(crate) enum AtHome {
     Overflow,
     /// It has to go on by the general way.
     GoesOn,
+}
+
+impl AtHome {
+    /// The same, but of a put it isn't told apart whether it left what was there as it was: then the
+    /// rest of its code is one piece, which is shorter. An add's and a removal's are shorter in two.
+    #[inline(always)]
+    pub(crate) fn joined_of(self, change: &Change) -> AtHome
+        ensures { (chain : ChainOf) (call : Call) (before after : SeenBy) (left : ℕ)
+            → HasTriedAtHome chain call before after left self
+            → HasTriedAtHome chain call before after left result }
+    {
+        match (*change, self) {
+            (Change::Put(_), AtHome::Left(reply)) => AtHome::Made(reply),
+            _ => self,
+        }
+    }
 }
 
 /// The straight way of a write: its first try, at its key's home slot in the table that its seat

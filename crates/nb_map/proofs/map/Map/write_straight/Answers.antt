@@ -16,15 +16,15 @@ use Rattle.nb_map.proofs.map.Map.write_straight.Goals.{After-count, In-Left, In-
 made :
     (c : After-count) (limit : Limit) → ((passed : ℕ) → 1 ≤ within limit (passed + 1))
     → HasWritten c.args.self.now (call.Write c.args.key c.args.want c.args.change) c.args.seat.now
-    (record { chain = c.write_home.new.seat; count = c.count.new.seat }) limit
+    (record { chain = c.write_home-home.new.seat; count = c.count.new.seat }) limit
     (Replied c.in-Made.reply)
 made c limit some =
-    let after : SeatOf = record { chain = c.write_home.new.seat; count = c.count.new.seat } in
+    let after : SeatOf = record { chain = c.write_home-home.new.seat; count = c.count.new.seat } in
     subst₂ (λ map before. HasWritten map (call.Write c.args.key c.args.want c.args.change) before after
     limit (Replied c.in-Made.reply)) c.self.view_is c.seat.view_is
     (made_straight {after = after} limit some
     (subst₂ IsMine (sym c.self.view_is) (sym c.seat.view_is) c.requires.own) c.in-Made.reply
-    c.in-Made.ensures.tried c.count.ensures)
+    (c.in-Made.ensures _ _ _ _ _ c.write_home-home.ensures.tried) c.count.ensures)
 
 pub returns-in-Made-clause-tries : goal.returns-in-Made-clause-tries
 returns-in-Made-clause-tries c =
@@ -40,18 +40,18 @@ returns-in-Made-clause-waits c =
 left-alone :
     (c : In-Left) (limit : Limit) → ((passed : ℕ) → 1 ≤ within limit (passed + 1))
     → HasWritten c.args.self.now (call.Write c.args.key c.args.want c.args.change) c.args.seat.now
-    (record { chain = c.write_home.new.seat; count = c.seat.inside.count }) limit
+    (record { chain = c.write_home-home.new.seat; count = c.seat.inside.count }) limit
     (Replied c.in-Left.reply)
 left-alone c limit some =
     let count = c.seat.inside.count in
-    let after : SeatOf = record { chain = c.write_home.new.seat; count = count } in
+    let after : SeatOf = record { chain = c.write_home-home.new.seat; count = count } in
     let write = call.Write c.args.key c.args.want c.args.change in
+    let left = c.in-Left.ensures _ _ _ _ _ c.write_home-home.ensures.tried in
     subst₂ (λ map before. HasWritten map write before after limit (Replied c.in-Left.reply))
     c.self.view_is c.seat.view_is
     (made_straight {after = after} limit some
     (subst₂ IsMine (sym c.self.view_is) (sym c.seat.view_is) c.requires.own) c.in-Left.reply
-    c.in-Left.ensures.tried.0
-    (uncounted (net_of_call write c.in-Left.reply) count count c.in-Left.ensures.tried.1 refl))
+    left.0 (uncounted (net_of_call write c.in-Left.reply) count count left.1 refl))
 
 pub returns-after-left-eq0-clause-tries : goal.returns-after-left-eq0-clause-tries
 returns-after-left-eq0-clause-tries c =
@@ -68,15 +68,15 @@ returns-after-left-eq0-clause-waits c =
 stopped :
     (c : In-Overflow) (limit : Limit) → ((passed : ℕ) → 1 ≤ within limit (passed + 1))
     → HasWritten c.args.self.now (call.Write c.args.key c.args.want c.args.change) c.args.seat.now
-    (record { chain = c.write_home.new.seat; count = c.seat.inside.count }) limit
+    (record { chain = c.write_home-home.new.seat; count = c.seat.inside.count }) limit
     (Refused ValueRange)
 stopped c limit some =
-    let after : SeatOf = record { chain = c.write_home.new.seat; count = c.seat.inside.count } in
+    let after : SeatOf = record { chain = c.write_home-home.new.seat; count = c.seat.inside.count } in
     subst₂ (λ map before. HasWritten map (call.Write c.args.key c.args.want c.args.change) before after
     limit (Refused ValueRange)) c.self.view_is c.seat.view_is
     (stopped_straight {after = after} limit some
     (subst₂ IsMine (sym c.self.view_is) (sym c.seat.view_is) c.requires.own)
-    c.in-Overflow.ensures.tried refl)
+    (c.in-Overflow.ensures _ _ _ _ _ c.write_home-home.ensures.tried) refl)
 
 pub returns-in-Overflow-clause-tries : goal.returns-in-Overflow-clause-tries
 returns-in-Overflow-clause-tries c =
@@ -91,22 +91,22 @@ returns-in-Overflow-clause-waits c =
 -- ---- it has looked in vain
 
 goes-on :
-    (c : In-GoesOn) (limit left : Limit) → LeavesTries limit (1 - c.write_home.new.left) left
+    (c : In-GoesOn) (limit left : Limit) → LeavesTries limit (1 - c.write_home-home.new.left) left
     → HasYetToWrite c.args.self.now (call.Write c.args.key c.args.want c.args.change) c.args.seat.now
-    (record { chain = c.write_home.new.seat; count = c.seat.inside.count }) limit left
+    (record { chain = c.write_home-home.new.seat; count = c.seat.inside.count }) limit left
 goes-on c limit left rest =
-    let after : SeatOf = record { chain = c.write_home.new.seat; count = c.seat.inside.count } in
+    let after : SeatOf = record { chain = c.write_home-home.new.seat; count = c.seat.inside.count } in
     subst₂ (λ map before. HasYetToWrite map (call.Write c.args.key c.args.want c.args.change) before
     after limit left) c.self.view_is c.seat.view_is
     (away_straight {after = after} limit left
     (subst₂ IsMine (sym c.self.view_is) (sym c.seat.view_is) c.requires.own)
-    c.in-GoesOn.ensures.tried rest refl)
+    (c.in-GoesOn.ensures _ _ _ _ _ c.write_home-home.ensures.tried) rest refl)
 
 pub returns-in-GoesOn-clause-tries : goal.returns-in-GoesOn-clause-tries
 returns-in-GoesOn-clause-tries c =
     goes-on (goal.at.returns-in-GoesOn-clause-tries c).In-GoesOn (Tries c.args.tries.now)
-    (Tries (c.args.tries.now - (1 - c.write_home.new.left)))
-    (omega (arith, c.requires.some, c.in-GoesOn.ensures.left))
+    (Tries (c.args.tries.now - (1 - c.write_home-home.new.left)))
+    (omega (arith, c.requires.some, c.write_home-home.ensures.left))
 
 pub returns-in-GoesOn-clause-waits : goal.returns-in-GoesOn-clause-waits
 returns-in-GoesOn-clause-waits c =

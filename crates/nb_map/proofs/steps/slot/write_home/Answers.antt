@@ -88,18 +88,18 @@ returns-in-Leave-clause-tried g c =
     c.load_key_word_at-word.ensures.grows in
     let reply = c.in-Leave.reply in
     let told : Result Reply PutFault = Ok reply in (
-    told-there chain c.known_top-top.result c.requires.own c.known_top-top.ensures 1 told
-    (made-within 1 _ (omega arith)
-    (subst (λ made. HasMade p call old c.load_key_word_at-word.new.seat made 1)
-    (ap (λ b. cond b (as_replied call None) []) left.0
-    ∙ ap (λ r. (call, r) ∷ []) (sym left.1))
-    (made-read p call (Some None)
-    (subst (λ s. Extended p old c.load_key_word_at-word.new.seat (read old.number call
-    (shown_by_key p c.known_top-top.result home s (key_of_call call))) 1) empty shown))))
-    tt (omega (arith, load)) (λ alone known. omega (arith, load))
-    (λ alone last. omega (arith, load)),
-    net-alone call reply (reply-fits call None reply left.1)
-    (alone-before call None reply left.0 left.1),
+      told-there chain c.known_top-top.result c.requires.own c.known_top-top.ensures 1 told
+          (made-within 1 _ (omega arith)
+          (subst (λ made. HasMade p call old c.load_key_word_at-word.new.seat made 1)
+          (ap (λ b. cond b (as_replied call None) []) left.0
+          ∙ ap (λ r. (call, r) ∷ []) (sym left.1))
+          (made-read p call (Some None)
+          (subst (λ s. Extended p old c.load_key_word_at-word.new.seat (read old.number call
+          (shown_by_key p c.known_top-top.result home s (key_of_call call))) 1) empty shown))))
+          tt (omega (arith, load)) (λ alone known. omega (arith, load))
+          (λ alone last. omega (arith, load)),
+      net-alone call reply (reply-fits call None reply left.1)
+          (alone-before call None reply left.0 left.1),
     )
 
 -- ---- it is empty, and the write puts a number at an absent key
