@@ -19,7 +19,7 @@ use Rattle.nb_ffi.specs.Checking.{and_then, map_ok}
 use Rattle.nb_ffi.specs.declared.codes.WriteAsked.{WriteAsked}
 use Rattle.nb_ffi.specs.declared.codes.WriteReply.{WriteReply}
 use Rattle.nb_ffi.specs.declared.occupancy.MapOccupancy.{MapOccupancy}
-use Rattle.nb_ffi.specs.declared.codes.TheConstants.{ADD, ANY, EQUAL, PUT, REMOVE, WANT_ABSENT, WANT_PRESENT, E_CHANGE, E_CHUNK, E_CONTENDED, E_EXPONENTS, E_FALLING, E_FULL, E_KEY_RANGE, E_NOT_ALL_SEATS, E_OUT_OF_MEMORY, E_REPROBES, E_SEATS, E_SLOTS, E_STRIPES, E_SUM_RANGE, E_TABLES, E_VALUE_RANGE, E_WANT}
+use Rattle.nb_ffi.specs.declared.codes.TheConstants.{ADD, ANY, EQUAL, PUT, REMOVE, WANT_ABSENT, WANT_BELOW, WANT_PRESENT, E_CHANGE, E_CHUNK, E_CONTENDED, E_EXPONENTS, E_FALLING, E_FULL, E_KEY_RANGE, E_NOT_ALL_SEATS, E_OUT_OF_MEMORY, E_REPROBES, E_SEATS, E_SLOTS, E_STRIPES, E_SUM_RANGE, E_TABLES, E_VALUE_RANGE, E_WANT}
 
 -- the code of a shape's fault
 abbrev pub shape_code : ShapeFault → ℤ
@@ -52,14 +52,15 @@ checked_key key = if nat_le key KEY_MAX then Ok key else Err E_KEY_RANGE
 abbrev pub checked_number : ℕ → Result ℕ ℤ
 checked_number number = if nat_le number VALUE_MAX then Ok number else Err E_VALUE_RANGE
 
--- The condition of a code: nothing, that there is no number at the key, that there is one, or that
--- it is this number.
+-- The condition of a code: nothing, that there is no number at the key, that there is one, that it
+-- is this number, or that there is none or a smaller one.
 abbrev pub checked_want : ℕ → ℕ → Result Want ℤ
 checked_want code number =
     if code == ANY then Ok want.Any
     else if code == WANT_ABSENT then Ok want.Absent
     else if code == WANT_PRESENT then Ok want.Present
     else if code == EQUAL then map_ok want.Equal (checked_number number)
+    else if code == WANT_BELOW then map_ok want.Below (checked_number number)
     else Err E_WANT
 
 -- The change of a code: it puts the number, takes the key out, or adds the number.
@@ -85,6 +86,18 @@ checked_entry key number =
 -- the call of the two
 abbrev pub checked_with : (call : ℕ → ℕ → Call) → (key number : ℕ) → Result Call ℤ
 checked_with call key number = map_ok (λ entry. call entry.0 entry.1) (checked_entry key number)
+
+-- a key, a number and a limit, or the code of the first of the three that is none
+abbrev pub checked_below : (key number limit : ℕ) → Result ((ℕ × ℕ) × ℕ) ℤ
+checked_below key number limit =
+    and_then (checked_entry key number) (λ entry.
+    map_ok (λ the_limit. (entry, the_limit)) (checked_number limit))
+
+-- the call of the three
+abbrev pub checked_with_limit :
+    (call : (key number limit : ℕ) → Call) → (key number limit : ℕ) → Result Call ℤ
+checked_with_limit call key number limit =
+    map_ok (λ below. call below.0.0 below.0.1 below.1) (checked_below key number limit)
 
 -- the call that a write is
 abbrev pub write_of : WriteAsked → Call

@@ -2,6 +2,7 @@
 ghost use Rattle.std.specs.Prelude.{◌≡◌};
 ghost use Rattle.nb_ffi.specs.Checking.{map_ok};
 ghost use Rattle.nb_ffi.specs.Codes.{
+  checked_below,
   checked_call,
   checked_change,
   checked_entry,
@@ -76,6 +77,8 @@ pub const WANT_ABSENT: u32 = 1;
 pub const WANT_PRESENT: u32 = 2;
 /// That it is this one.
 pub const EQUAL: u32 = 3;
+/// That there is none, or a smaller one than this.
+pub const WANT_BELOW: u32 = 4;
 
 /// A change that puts the number.
 pub const PUT: u32 = 0;
@@ -159,6 +162,10 @@ fn want_of(code: u32, number: u64) -> Result<Want, i32>
             Ok(number) => Ok(Want::Equal(number)),
             Err(code) => Err(code),
         },
+        WANT_BELOW => match number_of(number) {
+            Ok(limit) => Ok(Want::Below(limit)),
+            Err(code) => Err(code),
+        },
         _ => Err(E_WANT),
     }
 }
@@ -186,6 +193,14 @@ pub(crate) fn entry_of(key: u64, number: u64) -> Result<(Key, Num), i32>
     ensures { result ≡ checked_entry key number }
 {
     Ok((key_of(key)?, number_of(number)?))
+}
+
+/// The key, the number and the limit, or the first of them that is none.
+#[inline]
+pub(crate) fn entry_below(key: u64, number: u64, limit: u64) -> Result<((Key, Num), Num), i32>
+    ensures { result ≡ checked_below key number limit }
+{
+    Ok((entry_of(key, number)?, number_of(limit)?))
 }
 
 /// A write that C asks for.

@@ -180,7 +180,8 @@ enum samvolip_want {
     SAMVOLIP_ANY = 0,          /* nothing */
     SAMVOLIP_WANT_ABSENT = 1,  /* that there is no value */
     SAMVOLIP_WANT_PRESENT = 2, /* that there is a value */
-    SAMVOLIP_EQUAL = 3         /* that it is this one */
+    SAMVOLIP_EQUAL = 3,        /* that it is this one */
+    SAMVOLIP_WANT_BELOW = 4    /* that there is no value, or one below this */
 };
 
 /* What a write does to its key, if the condition holds. */
@@ -486,8 +487,8 @@ int samvolip_get_many(samvolip_seat *seat, const uint64_t *keys, size_t count, u
 
 /*
  * The write behind all others. If what is at the key is as `want` asks, it does what `change` says,
- * in one atomic step. `old` is the value for SAMVOLIP_EQUAL. `value` is the one for the change;
- * SAMVOLIP_REMOVE doesn't read it. It returns SAMVOLIP_OK, and what it found is written to `reply`.
+ * in one atomic step. `old` is the value for SAMVOLIP_EQUAL, or the limit for SAMVOLIP_WANT_BELOW.
+ * `value` is the one for the change; SAMVOLIP_REMOVE doesn't read it. It returns SAMVOLIP_OK, and what it found is written to `reply`.
  * If the call is refused, `reply` stays as it was. If another thread's write of the key comes in
  * between, it tries again, `tries` times in all; 0 counts as one.
  *
@@ -521,6 +522,20 @@ int samvolip_try_put_if_absent(samvolip_seat *seat, uint64_t key, uint64_t value
 int samvolip_try_add(samvolip_seat *seat, uint64_t key, uint64_t value, uint32_t tries,
                      uint64_t *before);
 int samvolip_try_remove(samvolip_seat *seat, uint64_t key, uint32_t tries, uint64_t *before);
+
+/*
+ * The put, the add and the removal below a limit: each is made only if there is no value at the
+ * key, or one below `limit`, and else leaves the key as it is. What was there is answered in any
+ * case, as above: so the call was made if it returns SAMVOLIP_ABSENT, or `before` is below `limit`.
+ *
+ * Cost: as above. Refused: as above; a limit past the greatest value is SAMVOLIP_E_VALUE_RANGE.
+ */
+int samvolip_try_put_below(samvolip_seat *seat, uint64_t key, uint64_t value, uint64_t limit,
+                           uint32_t tries, uint64_t *before);
+int samvolip_try_add_below(samvolip_seat *seat, uint64_t key, uint64_t value, uint64_t limit,
+                           uint32_t tries, uint64_t *before);
+int samvolip_try_remove_below(samvolip_seat *seat, uint64_t key, uint64_t limit, uint32_t tries,
+                              uint64_t *before);
 
 /*
  * About how many keys the map has. While others write, it is no more than a guess: a sum below zero

@@ -189,7 +189,7 @@ static inline int samvolip_checked_put_if_match(samvolip_seat *seat, uint64_t ke
 {
     int code;
     samvolip_check(reply != NULL, "samvolip_put_if_match", "the reply is NULL");
-    samvolip_check(want <= SAMVOLIP_EQUAL, "samvolip_put_if_match", "no such condition");
+    samvolip_check(want <= SAMVOLIP_WANT_BELOW, "samvolip_put_if_match", "no such condition");
     samvolip_check(change <= SAMVOLIP_ADD, "samvolip_put_if_match", "no such change");
     samvolip_enter(seat, "samvolip_put_if_match");
     code = samvolip_put_if_match(seat, key, want, old, change, value, tries, reply);
@@ -240,6 +240,42 @@ static inline int samvolip_checked_try_remove(samvolip_seat *seat, uint64_t key,
     samvolip_check(before != NULL, "samvolip_try_remove", "the value is NULL");
     samvolip_enter(seat, "samvolip_try_remove");
     code = samvolip_try_remove(seat, key, tries, before);
+    samvolip_leave(seat);
+    return code;
+}
+
+static inline int samvolip_checked_try_put_below(samvolip_seat *seat, uint64_t key,
+                                                 uint64_t value, uint64_t limit,
+                                                 uint32_t tries, uint64_t *before)
+{
+    int code;
+    samvolip_check(before != NULL, "samvolip_try_put_below", "the value is NULL");
+    samvolip_enter(seat, "samvolip_try_put_below");
+    code = samvolip_try_put_below(seat, key, value, limit, tries, before);
+    samvolip_leave(seat);
+    return code;
+}
+
+static inline int samvolip_checked_try_add_below(samvolip_seat *seat, uint64_t key,
+                                                 uint64_t value, uint64_t limit,
+                                                 uint32_t tries, uint64_t *before)
+{
+    int code;
+    samvolip_check(before != NULL, "samvolip_try_add_below", "the value is NULL");
+    samvolip_enter(seat, "samvolip_try_add_below");
+    code = samvolip_try_add_below(seat, key, value, limit, tries, before);
+    samvolip_leave(seat);
+    return code;
+}
+
+static inline int samvolip_checked_try_remove_below(samvolip_seat *seat, uint64_t key,
+                                                    uint64_t limit, uint32_t tries,
+                                                    uint64_t *before)
+{
+    int code;
+    samvolip_check(before != NULL, "samvolip_try_remove_below", "the value is NULL");
+    samvolip_enter(seat, "samvolip_try_remove_below");
+    code = samvolip_try_remove_below(seat, key, limit, tries, before);
     samvolip_leave(seat);
     return code;
 }
@@ -382,6 +418,9 @@ static inline int samvolip_checked_ended_entries(const samvolip_ended *ended,
 #define samvolip_try_put_if_absent samvolip_checked_try_put_if_absent
 #define samvolip_try_add samvolip_checked_try_add
 #define samvolip_try_remove samvolip_checked_try_remove
+#define samvolip_try_put_below samvolip_checked_try_put_below
+#define samvolip_try_add_below samvolip_checked_try_add_below
+#define samvolip_try_remove_below samvolip_checked_try_remove_below
 #undef samvolip_size_estimate
 #define samvolip_size_estimate samvolip_checked_size_estimate
 #define samvolip_generation samvolip_checked_generation

@@ -39,7 +39,7 @@ int main(int count, char **words)
     case 1: samvolip_get(NULL, 1, &number); break;
     case 2: samvolip_get(&mine, 1, NULL); break;
     case 3: samvolip_free(&mine), samvolip_get(&mine, 1, &number); break;
-    case 4: samvolip_put_if_match(&mine, 1, 4, 0, 0, 0, 1, &reply); break;
+    case 4: samvolip_put_if_match(&mine, 1, 5, 0, 0, 0, 1, &reply); break;
     case 5: samvolip_put_if_match(&mine, 1, 0, 0, 3, 0, 1, &reply); break;
     case 6: two_threads(); break;
     case 7: samvolip_meet(&mine, &theirs); break;

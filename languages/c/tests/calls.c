@@ -315,6 +315,13 @@ static void tries(samvolip_seat *seat)
     EXPECT(samvolip_try_put(seat, 50, past, 1, &was) == SAMVOLIP_E_VALUE_RANGE);
     EXPECT(samvolip_try_put_if_absent(seat, 50, past, 1, &was) == SAMVOLIP_E_VALUE_RANGE);
     EXPECT(samvolip_try_add(seat, 50, past, 1, &was) == SAMVOLIP_E_VALUE_RANGE);
+    EXPECT(samvolip_try_put_below(seat, past_key, past, past, 1, &was) == SAMVOLIP_E_KEY_RANGE);
+    EXPECT(samvolip_try_add_below(seat, past_key, past, past, 1, &was) == SAMVOLIP_E_KEY_RANGE);
+    EXPECT(samvolip_try_remove_below(seat, past_key, past, 1, &was) == SAMVOLIP_E_KEY_RANGE);
+    EXPECT(samvolip_try_put_below(seat, 50, past, 9, 1, &was) == SAMVOLIP_E_VALUE_RANGE);
+    EXPECT(samvolip_try_put_below(seat, 50, 9, past, 1, &was) == SAMVOLIP_E_VALUE_RANGE);
+    EXPECT(samvolip_try_add_below(seat, 50, 9, past, 1, &was) == SAMVOLIP_E_VALUE_RANGE);
+    EXPECT(samvolip_try_remove_below(seat, 50, past, 1, &was) == SAMVOLIP_E_VALUE_RANGE);
     EXPECT(was == 99);
     EXPECT(samvolip_try_remove(seat, 50, 1, &was) == SAMVOLIP_PRESENT && was == 6);
     EXPECT(samvolip_try_remove(seat, 52, 1, &was) == SAMVOLIP_PRESENT && was == 7);

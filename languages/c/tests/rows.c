@@ -33,12 +33,16 @@ enum call {
     CALL_TRY_PUT_IF_ABSENT,
     CALL_TRY_ADD,
     CALL_TRY_REMOVE,
+    CALL_TRY_PUT_BELOW,
+    CALL_TRY_ADD_BELOW,
+    CALL_TRY_REMOVE_BELOW,
     CALL_EXCHANGE,
     CALL_ONE_MORE,
     CALL_TURN,
     CALL_PUT_AT_ABSENT,
     CALL_PUT_AT_PRESENT,
     CALL_REMOVE_EQUAL,
+    CALL_PUT_BELOW,
     CALL_ADD_AT_ANY,
     CALL_MEET,
     CALL_CLOSE,
@@ -56,7 +60,7 @@ struct answer {
     uint32_t more;
 };
 
-/* A call of a seat at a key. The one number is what has to be there, and the other one what is to be put. */
+/* A call of a seat at a key. The one number is what has to be there, or a limit, and the other one what is to be put. */
 struct row {
     unsigned seat;
     uint64_t key;
@@ -104,6 +108,9 @@ enum { CURSORS = 2 };
 #define TRY_ADD(number) CALL_TRY_ADD, 1, number
 #define ADD_WITH_NO_TRIES(number) CALL_TRY_ADD, 0, number
 #define TRY_REMOVE CALL_TRY_REMOVE, 1, 0
+#define TRY_PUT_BELOW(limit, number) CALL_TRY_PUT_BELOW, limit, number
+#define TRY_ADD_BELOW(limit, number) CALL_TRY_ADD_BELOW, limit, number
+#define TRY_REMOVE_BELOW(limit) CALL_TRY_REMOVE_BELOW, limit, 0
 #define EXCHANGE(old, number) CALL_EXCHANGE, old, number
 /* adds 1 to what is there, or to 0 */
 #define ONE_MORE CALL_ONE_MORE, 0, 0
@@ -112,6 +119,7 @@ enum { CURSORS = 2 };
 #define PUT_AT_ABSENT(number) CALL_PUT_AT_ABSENT, 0, number
 #define PUT_AT_PRESENT(number) CALL_PUT_AT_PRESENT, 0, number
 #define REMOVE_EQUAL(old) CALL_REMOVE_EQUAL, old, 0
+#define PUT_BELOW(limit, number) CALL_PUT_BELOW, limit, number
 #define ADD_AT_ANY(number) CALL_ADD_AT_ANY, 0, number
 /* with the other seat */
 #define MEET CALL_MEET, 0, 0
@@ -171,6 +179,7 @@ static struct answer compares(samvolip_seat *seat, const struct row *row)
     case CALL_PUT_AT_ABSENT: want = SAMVOLIP_WANT_ABSENT; break;
     case CALL_PUT_AT_PRESENT: want = SAMVOLIP_WANT_PRESENT; break;
     case CALL_REMOVE_EQUAL: want = SAMVOLIP_EQUAL; change = SAMVOLIP_REMOVE; break;
+    case CALL_PUT_BELOW: want = SAMVOLIP_WANT_BELOW; break;
     case CALL_ADD_AT_ANY: change = SAMVOLIP_ADD; break;
     default: EXPECT(row->call == CALL_EXCHANGE);
     }
@@ -251,6 +260,22 @@ static struct answer looks(samvolip_seat *seats, const struct row *row)
     return (struct answer){code, 0, 1};
 }
 
+/* A write below a limit, with one try, and its answer. */
+static struct answer writes_below(samvolip_seat *seat, const struct row *row)
+{
+    const uint64_t key = row->key, limit = row->old, n = row->number;
+    uint64_t found = 99;
+    int code;
+    switch (row->call) {
+    case CALL_TRY_PUT_BELOW: code = samvolip_try_put_below(seat, key, n, limit, 1, &found); break;
+    case CALL_TRY_ADD_BELOW: code = samvolip_try_add_below(seat, key, n, limit, 1, &found); break;
+    default: code = samvolip_try_remove_below(seat, key, limit, 1, &found);
+    }
+    if (code < 0)
+        return (struct answer){found == 99 ? code : ANY_CODE, 0, 1};
+    return (struct answer){code, found, 1};
+}
+
 /* A call, and its answer. */
 static struct answer makes(samvolip_seat *seats, const struct row *row)
 {
@@ -275,6 +300,9 @@ static struct answer makes(samvolip_seat *seats, const struct row *row)
         break;
     case CALL_TRY_ADD: code = samvolip_try_add(seat, key, n, tries, &found); break;
     case CALL_TRY_REMOVE: code = samvolip_try_remove(seat, key, tries, &found); break;
+    case CALL_TRY_PUT_BELOW:
+    case CALL_TRY_ADD_BELOW:
+    case CALL_TRY_REMOVE_BELOW: return writes_below(seat, row);
     case CALL_ONE_MORE: code = samvolip_update(seat, key, one_more, NULL, 1, &found); break;
     case CALL_TURN: code = samvolip_update(seat, key, turn, NULL, 2, &found); break;
     case CALL_NEXT:
@@ -564,6 +592,28 @@ static const struct test tests[] = {
               {A, 5, GET, NOTHING}},
      .keys = 0},
 
+    /* what is absent is below any limit, and a value below a greater one alone */
+    {.name = "writes_below_a_limit",
+     .shape = ONE_TABLE,
+     .rows = {{A, 5, TRY_PUT_BELOW(0, 1), NOTHING},
+              {A, 5, TRY_PUT_BELOW(1, 6), WAS(1)},
+              {A, 5, TRY_PUT_BELOW(2, 7), WAS(1)},
+              {A, 5, TRY_ADD_BELOW(7, 2), WAS(7)},
+              {A, 5, TRY_ADD_BELOW(8, 2), WAS(7)},
+              {A, 5, TRY_ADD_BELOW(9, SAMVOLIP_VALUE_MAX), WAS(9)},
+              {A, 5, TRY_ADD_BELOW(10, SAMVOLIP_VALUE_MAX), PAST},
+              {A, 5, PUT_BELOW(9, 4), MISSED_AT(9)},
+              {A, 5, PUT_BELOW(10, 8), WAS(9)},
+              {A, 5, PUT_BELOW(SAMVOLIP_VALUE_MAX + 1, 8), REFUSED(SAMVOLIP_E_VALUE_RANGE)},
+              {A, 5, TRY_REMOVE_BELOW(8), WAS(8)},
+              {A, 5, TRY_REMOVE_BELOW(9), WAS(8)},
+              {A, 5, TRY_REMOVE_BELOW(9), NOTHING},
+              {A, 5, PUT_BELOW(0, 3), NOTHING},
+              {A, 6, TRY_ADD_BELOW(0, 4), NOTHING},
+              {A, 0, ESTIMATE, WAS(2)}},
+     .keys = 2,
+     .left = {{5, 3}, {6, 4}}},
+
     {.name = "writes_refused_when_full",
      .shape = ONE_TABLE,
      .rows = {FOUR_KEYS,
@@ -571,6 +621,9 @@ static const struct test tests[] = {
               {A, 4, TRY_PUT_IF_ABSENT(1), FULL},
               {A, 4, TRY_ADD(1), FULL},
               {A, 4, EXCHANGE(NONE, 1), FULL},
+              {A, 4, TRY_PUT_BELOW(9, 1), FULL},
+              {A, 4, TRY_ADD_BELOW(9, 1), FULL},
+              {A, 4, TRY_REMOVE_BELOW(9), NOTHING},
               {A, 4, TRY_REMOVE, NOTHING},
               {A, 0, TRY_ADD(SAMVOLIP_VALUE_MAX), PAST}},
      .keys = 4,

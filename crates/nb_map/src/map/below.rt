@@ -32,13 +32,8 @@ impl Map {
             (Tries tries) (found_or_refused result) }
     {
         let mut left = tries;
-        let told = self.write_straight(
-            seat,
-            key,
-            Want::Below(limit),
-            Change::Put(number),
-            &mut left,
-        );
+        let change = Change::Put(number);
+        let told = self.write_straight(seat, key, Want::Below(limit), change, &mut left);
         if let Straight::Made(reply) = told {
             return Ok(reply.before);
         }
@@ -82,13 +77,8 @@ impl Map {
             (Tries tries) (found_or_refused result) }
     {
         let mut left = tries;
-        match self.write_straight(
-            seat,
-            key,
-            Want::Below(limit),
-            Change::Add(number),
-            &mut left,
-        ) {
+        let change = Change::Add(number);
+        match self.write_straight(seat, key, Want::Below(limit), change, &mut left) {
             Straight::Made(reply) => Ok(reply.before),
             Straight::Overflow => Err(PutFault::ValueRange),
             Straight::GoesOn => self
