@@ -80,6 +80,7 @@ fn sees_key<R: Abort>(rt: &R, chain: &Chain, seat: &mut ChainSeat, g: u32, key: 
 pub(super) fn installs<R: Abort>(rt: &R, chain: &Chain, seat: &mut ChainSeat, k: u64) -> bool
     requires own { IsOwn chain.now seat.old }
     ensures own { IsOwn chain.now seat.new }
+    ensures installed { IsInstalled (seen_by chain.now.shape seat.new) 1 }
 {
     let key = key(rt, k);
     assert!(rt; 1 < chain.shape().generations());
@@ -116,18 +117,6 @@ pub(super) fn sees_source<R: Abort>(
     assert!(rt; value == ValueState::Primed(number) || value == ValueState::Finished(number));
 }
 
-/// Claims the key's home slot in table 1, for a key that has the first slot of table 0, and answers
-/// what the key word was.
-pub(super) fn claims<R: Abort>(rt: &R, chain: &Chain, seat: &mut ChainSeat, key: Key) -> KeyState
-    requires own { IsOwn chain.now seat.old }
-    ensures own { IsOwn chain.now seat.new }
-{
-    let j = slot_on_path(rt, chain, 1, key, 0);
-    sees_next(rt, chain, seat);
-    sees_key(rt, chain, seat, 0, key);
-    chain.claim_key(seat, 1, j, key)
-}
-
 /// Copies the number of the key's slot to the key's slot in table 1, both the first ones, and
 /// answers what the value there was.
 pub(super) fn copies_in<R: Abort>(
@@ -147,6 +136,22 @@ pub(super) fn copies_in<R: Abort>(
     ensures above { HasValue chain.now.shape (seen_by chain.now.shape seat.new) 1 key }
 {
     sees_key(rt, chain, seat, 1, key);
+    fills(chain, seat, key, number)
+}
+
+/// The same where the key is known to have the slot of table 1.
+fn fills(chain: &Chain, seat: &mut ChainSeat, key: Key, number: Num) -> ValueState
+    requires own { IsOwn chain.now seat.old }
+    requires slot { IsSlot chain.now.shape 0 0 }
+    requires claimed { (seen_by chain.now.shape seat.old).key 0 0 ≡ key_is.Claimed key }
+    requires held { IsPrimedOrFinished (seen_by chain.now.shape seat.old) 0 0 number }
+    requires above { IsSlot chain.now.shape 1 0 }
+    requires copies { (seen_by chain.now.shape seat.old).key 1 0 ≡ key_is.Claimed key }
+    ensures own { IsOwn chain.now seat.new }
+    ensures claimed { (seen_by chain.now.shape seat.new).key 0 0 ≡ key_is.Claimed key }
+    ensures held { IsPrimedOrFinished (seen_by chain.now.shape seat.new) 0 0 number }
+    ensures above { HasValue chain.now.shape (seen_by chain.now.shape seat.new) 1 key }
+{
     chain.copy_in(seat, 1, 0, key, number)
 }
 
@@ -162,4 +167,102 @@ pub(super) fn finishes(chain: &Chain, seat: &mut ChainSeat, key: Key, number: Nu
     ensures held { IsPrimedOrFinished (seen_by chain.now.shape seat.new) 0 0 number }
 {
     chain.finish_slot(seat, 0, 0)
+}
+
+/// The eight steps, and no others, by which a seat copies the key's slot, the first of table 0, to
+/// its home slot, the first of table 1, where nobody else copies it. It stops after so many.
+pub(super) fn copies_until<R: Abort>(
+    rt: &R,
+    chain: &Chain,
+    seat: &mut ChainSeat,
+    key: Key,
+    number: Num,
+    steps: usize,
+)
+    requires own { IsOwn chain.now seat.old }
+    requires installed { IsInstalled (seen_by chain.now.shape seat.old) 1 }
+    ensures own { IsOwn chain.now seat.new }
+{
+    if steps == 0 {
+        return;
+    }
+    sees_key(rt, chain, seat, 0, key);
+    if steps == 1 {
+        return;
+    }
+    assert_eq!(rt;
+        chain.load_value(seat, 0, 0, None),
+        ValueState::Live(number)
+    );
+    if steps == 2 {
+        return;
+    }
+    assert_eq!(rt; chain.prime(seat, 0, 0), ValueState::Live(number));
+    claims_until(rt, chain, seat, key, number, steps - 3);
+}
+
+/// The same once the number is primed.
+fn claims_until<R: Abort>(
+    rt: &R,
+    chain: &Chain,
+    seat: &mut ChainSeat,
+    key: Key,
+    number: Num,
+    steps: usize,
+)
+    requires own { IsOwn chain.now seat.old }
+    requires installed { IsInstalled (seen_by chain.now.shape seat.old) 1 }
+    requires slot { IsSlot chain.now.shape 0 0 }
+    requires claimed { (seen_by chain.now.shape seat.old).key 0 0 ≡ key_is.Claimed key }
+    requires held { IsPrimedOrFinished (seen_by chain.now.shape seat.old) 0 0 number }
+    ensures own { IsOwn chain.now seat.new }
+{
+    let home = slot_on_path(rt, chain, 1, key, 0);
+    assert_eq!(rt; home, 0);
+    if steps == 0 {
+        return;
+    }
+    assert_eq!(rt; chain.load_key(seat, 1, home, None), KeyState::Empty);
+    if steps == 1 {
+        return;
+    }
+    assert_eq!(rt; chain.claim_key(seat, 1, home, key), KeyState::Empty);
+    fills_until(rt, chain, seat, key, number, steps - 2);
+}
+
+/// The same once the slot of table 1 is claimed.
+fn fills_until<R: Abort>(
+    rt: &R,
+    chain: &Chain,
+    seat: &mut ChainSeat,
+    key: Key,
+    number: Num,
+    steps: usize,
+)
+    requires own { IsOwn chain.now seat.old }
+    requires slot { IsSlot chain.now.shape 0 0 }
+    requires claimed { (seen_by chain.now.shape seat.old).key 0 0 ≡ key_is.Claimed key }
+    requires held { IsPrimedOrFinished (seen_by chain.now.shape seat.old) 0 0 number }
+    requires above { IsSlot chain.now.shape 1 0 }
+    requires copies { (seen_by chain.now.shape seat.old).key 1 0 ≡ key_is.Claimed key }
+    ensures own { IsOwn chain.now seat.new }
+{
+    if steps == 0 {
+        return;
+    }
+    assert_eq!(rt; fills(chain, seat, key, number), ValueState::Null);
+    if steps == 1 {
+        return;
+    }
+    assert_eq!(rt;
+        chain.load_value(seat, 1, 0, None),
+        ValueState::Live(number)
+    );
+    if steps == 2 {
+        return;
+    }
+    assert_eq!(rt;
+        finishes(chain, seat, key, number),
+        ValueState::Primed(number)
+    );
 }

@@ -161,31 +161,33 @@ fn copier_between_two_copies(rt: HostRuntime) {
     );
 }
 
-/// Each step of a copy of the first slot of table 0 to that of table 1, which nobody else copies.
-const EACH_STEP: [Step; 8] = [
-    Key(0, 0, 2),
-    Value(0, 0, LIVE_10),
-    Primes(LIVE_10),
-    Key(1, 0, EMPTY),
-    Claims,
-    CopiesFirst,
-    Value(1, 0, LIVE_10),
-    FinishesFirst,
-];
+/// A makes so many steps of a copy of the first slot, and stops. B copies both tables. A then finds
+/// the slot copied.
+fn stops_after<R: Abort>(rt: &R, chain: &Chain, a: &mut ChainSeat, b: &mut ChainSeat, steps: usize)
+    requires a { IsOwn chain.now a.old }
+    requires b { IsOwn chain.now b.old }
+    ensures a { IsOwn chain.now a.new }
+    ensures b { IsOwn chain.now b.new }
+{
+    goes(rt, chain, a, &[Put(0, 10), Put(4, 14), Put(8, 18)]);
+    assert!(rt; installs(rt, chain, a, 12));
+    copies_until(rt, chain, a, key(rt, 0), number(rt, 10), steps);
+    goes(rt, chain, b, &COPIES_TABLE);
+    goes(rt, chain, b, &CROWDS_NEXT);
+    goes(rt, chain, a, &[Copies(0, false), Get(0, None)]);
+}
 
-/// A makes so many steps of a copy of the first slot, and stops. B goes on for two tables. A then
-/// finds the slot copied.
+/// A stops after each of the eight steps, and before the first.
 #[test]
 fn stopped_after_each_step(rt: HostRuntime) {
     for steps in 0..9 {
-        let turns: [(usize, &[Step]); 5] = [
-            (0, &BEGINS),
-            (0, &EACH_STEP[..steps]),
-            (1, &COPIES_TABLE),
-            (1, &CROWDS_NEXT),
-            (0, &[Copies(0, false), Get(0, None)]),
-        ];
-        story(&rt, rt.alloc(), &[2, 3, 4], 2, &turns, &LEFT);
+        let (chain, mut seats) = chain_of(&rt, rt.alloc(), &[2, 3, 4], 2);
+        let mut b = taken(&rt, &chain, &mut seats);
+        let mut a = taken(&rt, &chain, &mut seats);
+        stops_after(&rt, &chain, &mut a, &mut b, steps);
+        seats.push(a).expect(&rt, "memory");
+        seats.push(b).expect(&rt, "memory");
+        leaves(&rt, rt.alloc(), chain, seats, &LEFT);
     }
 }
 

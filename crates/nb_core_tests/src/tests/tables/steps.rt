@@ -6,7 +6,7 @@ use super::by_hand::*;
 use super::on_chain::*;
 use super::steps::Step::*;
 use nb_copy::{complete, copy_and_count, copy_slot, help};
-use nb_core::{Change, KeyState, Num, Reply, ValueState, Want, encode_value};
+use nb_core::{Change, Num, Reply, Want, encode_value};
 use nb_map::PutFault;
 use nb_map::steps::get_in;
 use nb_table::{Chain, ChainSeat};
@@ -68,13 +68,8 @@ pub(super) enum Step {
     Completes,
     /// The next chunk is taken, and begins here.
     Takes(u64),
-    /// Of the key 0, in the first slot of table 0: its value is primed, and its word was this; its
-    /// home slot in table 1 is claimed; its number is copied there, by this seat first; and the
-    /// copy is finished, which the seat made.
+    /// The value of the key 0, in the first slot of table 0, is primed, and its word was this.
     Primes(u64),
-    Claims,
-    CopiesFirst,
-    FinishesFirst,
 }
 
 /// The answer of a write whose condition holds.
@@ -166,21 +161,9 @@ fn copies<R: Abort>(rt: &R, chain: &Chain, seat: &mut ChainSeat, step: Step) -> 
     requires own { IsOwn chain.now seat.old }
     ensures own { IsOwn chain.now seat.new }
 {
-    let (first, ten) = (key(rt, 0), number(rt, 10));
     match step {
         Installs(k, by_this) => installs(rt, chain, seat, k) == by_this,
-        Primes(was) => encode_value(primes(rt, chain, seat, first)) == was,
-        Claims => claims(rt, chain, seat, first) == KeyState::Empty,
-        CopiesFirst => {
-            sees_source(rt, chain, seat, first, ten);
-            copies_in(rt, chain, seat, first, ten) == ValueState::Null
-        }
-        FinishesFirst => {
-            sees_source(rt, chain, seat, first, ten);
-            let above = copies_in(rt, chain, seat, first, ten);
-            let below = finishes(chain, seat, first, ten);
-            above == ValueState::Live(ten) && below == ValueState::Primed(ten)
-        }
+        Primes(was) => encode_value(primes(rt, chain, seat, key(rt, 0))) == was,
         _ => copies_on(rt, chain, seat, step),
     }
 }
