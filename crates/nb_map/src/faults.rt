@@ -57,6 +57,11 @@ pub enum SplitFault {
     OutOfMemory,
 }
 
+/// Some of the map's seats aren't there. The map is as it was.
+#[derive(Clone, Copy, Debug, PartialEq, Eq, Error)]
+#[error("a seat is missing")]
+pub struct SeatMissing;
+
 /// Why seats weren't settled, or the entries of their map weren't listed. The map is as it was.
 #[derive(Clone, Copy, Debug, PartialEq, Eq, Error)]
 pub enum SettleFault {

@@ -14,10 +14,11 @@ mod occupancy;
 pub mod steps;
 
 pub use faults::{
-    AddFault, Full, FullAfter, OpenFault, PutFault, RenewFault, SettleFault, SplitFault,
+    AddFault, Full, FullAfter, OpenFault, PutFault, RenewFault, SeatMissing, SettleFault,
+    SplitFault,
 };
 pub use handle::{Handle, HandleWalk};
-pub use map::{Ended, Map, Seat, Walk, WalkPlace};
+pub use map::{Ended, Map, Seat, SettlingRoom, Walk, WalkPlace};
 pub use nb_core::NotAll;
 pub use occupancy::{Occupancy, SAMPLE};
 pub use steps::walk::Place;

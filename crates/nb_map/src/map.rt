@@ -26,6 +26,7 @@ pub use ended::Ended;
 use nb_core::{Key, Num, OutOfMemory, SeatRoom, Shape};
 use nb_count::{CountSeat, Counter};
 use nb_table::{Chain, ChainSeat};
+pub use settling::SettlingRoom;
 use std::alloc::Global;
 use std::marker::Model;
 pub use walks::{Walk, WalkPlace};

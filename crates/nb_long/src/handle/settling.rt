@@ -11,7 +11,7 @@ use std::alloc::Global;
 impl<V: Drop> Handle<V> {
     /// With all seats: how many keys the map has, exactly. Afterwards the log of each seat is one and
     /// the same log of all calls that were made, as if the map had been closed; and the handle works
-    /// on, with the map's store. It takes memory for four vectors of seats. Where that is refused, or
+    /// on, with the map's store. It takes memory for three vectors of seats. Where that is refused, or
     /// a seat is missing, the handle is as it was.
     pub fn settle(&mut self, alloc: Global) -> Result<u64, SettleFault>
         ensures all { (result ≡ Err fault.NotAll) ↔ (IsWhole self.old → ⊥) }

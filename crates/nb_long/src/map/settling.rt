@@ -11,7 +11,7 @@ use std::alloc::Global;
 impl<V> LongMap<V> {
     /// With all seats: how many keys the map has, exactly: `Map::settle`. Afterwards each seat's log
     /// is one and the same log of all calls that were made; and the map goes on, with its store. It
-    /// takes memory for three vectors of seats. Where that is refused, or a seat is missing, the
+    /// takes memory for two vectors of seats. Where that is refused, or a seat is missing, the
     /// seats are as they were.
     pub fn settle(&self, alloc: Global, seats: &mut Vec<Seat>) -> Result<u64, SettleFault>
         requires own { AreMine self.now.map seats.old.items }

@@ -2,7 +2,7 @@
 -- it.
 use Rattle.std.specs.Arc.{arc_value}
 use Rattle.std.specs.FinMap as numbers
-use Rattle.std.specs.Prelude.{◌≡◌, ◌≤◌, length, List, map}
+use Rattle.std.specs.Prelude.{◌≡◌, ◌≤◌, [], length, List, map, vec_capacity}
 use Rattle.nb_core.specs.Plans.{IsPlan}
 use Rattle.nb_count.specs.Counts.{CountSeatOf}
 use Rattle.nb_table.specs.Chains.{SeenBy}
@@ -16,6 +16,7 @@ use Rattle.nb_map.specs.declared.handle.Handle.TheInside as handle
 use Rattle.nb_map.specs.declared.handle.walks.HandleWalk.TheInside as handle_walk
 use Rattle.nb_map.specs.declared.map.Map.TheInside as map
 use Rattle.nb_map.specs.declared.map.Seat.TheInside as seat
+use Rattle.nb_map.specs.declared.map.settling.SettlingRoom.TheInside as room
 use Rattle.nb_map.specs.declared.map.walks.Walk.TheInside as walk
 
 -- the map, as contracts see it
@@ -32,6 +33,12 @@ pub record IsMap (c : map.Inside) : Type 0 where
 -- the seat, as contracts see it
 abbrev pub seat_of : seat.Inside → SeatOf
 seat_of c = record { chain = c.chain; count = c.count }
+
+-- its vectors are empty, each with room for so many seats
+pub record IsSettlingRoom (c : room.Inside) : Type 0 where
+  pub gathered : (c.gathered.items ≡ []) × (c.seats ≤ vec_capacity c.gathered)
+  pub chain_room : (c.chain_room.items ≡ []) × (c.seats ≤ vec_capacity c.chain_room)
+  pub count_room : (c.count_room.items ≡ []) × (c.seats ≤ vec_capacity c.count_room)
 
 -- the walk, as contracts see it
 abbrev pub walk_of : walk.Inside → WalkOf

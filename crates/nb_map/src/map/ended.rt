@@ -102,8 +102,9 @@ impl Map {
             chain_room,
             count_room,
         } = self;
+        let mut seats = seats;
         let (chain_seats, count_seats) = parted(
-            seats,
+            &mut seats,
             chain_room.into_vec(),
             count_room.into_vec(),
         );
@@ -114,20 +115,24 @@ impl Map {
     }
 }
 
-/// The seats of the chain and those of the counter, in vectors that have room for them.
+/// The seats of the chain and those of the counter, in vectors that have room for them. The seats'
+/// own vector is empty then, with room for as many as before.
 pub(super) fn parted(
-    seats: Vec<Seat>,
+    seats: &mut Vec<Seat>,
     chain_seats: Vec<ChainSeat>,
     count_seats: Vec<CountSeat>,
 ) -> (Vec<ChainSeat>, Vec<CountSeat>)
     requires empty { (chain_seats.items ≡ []) × (count_seats.items ≡ []) }
-    requires room { (length seats.items ≤ vec_capacity chain_seats)
-        × (length seats.items ≤ vec_capacity count_seats) }
-    ensures { IsParted seats.items result.0.items result.1.items }
+    requires room { (length seats.old.items ≤ vec_capacity chain_seats)
+        × (length seats.old.items ≤ vec_capacity count_seats) }
+    ensures parted { IsParted seats.old.items result.0.items result.1.items }
+    ensures empty { seats.new.items ≡ [] }
+    ensures room { length seats.old.items ≤ vec_capacity seats.new }
 {
     let mut chain_seats = chain_seats;
     let mut count_seats = count_seats;
-    for seat in seats {
+    seats.reverse();
+    while let Some(seat) = seats.pop() {
         let Seat { chain, count } = seat;
         chain_seats.push_reserved(chain);
         count_seats.push_reserved(count);

@@ -4,7 +4,10 @@ use super::rows::Answer::{Is, Nothing, Replied, Was};
 use super::rows::Call::*;
 use super::rows::*;
 use nb_core::VALUE_MAX;
-use nb_map::{AddFault, Full, FullAfter, OpenFault, PutFault, RenewFault, SettleFault, SplitFault};
+use nb_map::{
+    AddFault, Full, FullAfter, OpenFault, PutFault, RenewFault, SeatMissing, SettleFault,
+    SplitFault,
+};
 use std::alloc::Global;
 use std::fmt::Display;
 use std::process::Abort;
@@ -259,6 +262,7 @@ fn fault_texts(rt: HostRuntime) {
     said(&rt, rt.alloc(), &splits, "no seat is left\nout of memory\n");
     let settles = [SettleFault::NotAll, SettleFault::OutOfMemory];
     said(&rt, rt.alloc(), &settles, missing);
+    said(&rt, rt.alloc(), &[SeatMissing], "a seat is missing\n");
     let opens = [OpenFault::Full, OpenFault::OutOfMemory];
     said(&rt, rt.alloc(), &opens, "the map is full\nout of memory\n");
     let renews = [

@@ -1,8 +1,12 @@
 //! Maps that have entries from the start, and calls that take memory, where it is refused.
+ghost use Rattle.std.specs.Prelude.{◌≡◌};
+
 use super::rows::Answer::{Is, Nothing, Was};
 use super::rows::Call::{Get, List, Renew, Settle};
 use super::rows::*;
-use nb_map::{Handle, OpenFault};
+use nb_map::{Handle, OpenFault, SettlingRoom};
+use std::alloc::Global;
+use std::process::Abort;
 
 /// A table of four slots refuses a fifth key.
 #[test]
@@ -34,10 +38,25 @@ const REFUSED_MEMORY: Story = (
     &TWO,
 );
 
+/// Room for so many seats, also where one request for memory is refused.
+fn reserved<R: Abort>(rt: &R, alloc: Global, seats: usize) -> SettlingRoom
+    ensures { result ≡ seats }
+{
+    for _attempt in 0..2 {
+        if let Ok(room) = SettlingRoom::for_seats(alloc, seats) {
+            return room;
+        }
+    }
+    panic!(rt; "memory")
+}
+
 /// What takes memory is called again where it was refused, and then it has it: so this passes
 /// whichever one request is refused. A map that is made anew has lost nothing then.
 #[test]
 fn refused_memory(rt: HostRuntime) {
     leaves(&rt, rt.alloc(), opened(&rt, rt.alloc(), (2, 2, 3, 1)), &[]);
     plays(&rt, rt.alloc(), &REFUSED_MEMORY);
+    let mut handle = opened_with(&rt, rt.alloc(), (2, 2, 2, 1), &TWO);
+    let room = reserved(&rt, rt.alloc(), handle.seats());
+    assert!(rt; handle.settle_in(room) == Ok(2));
 }

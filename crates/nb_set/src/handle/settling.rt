@@ -11,7 +11,7 @@ use std::alloc::Global;
 impl Handle {
     /// With all seats: how many keys the set has, exactly. Afterwards the log of each seat is one
     /// and the same log of all calls that were made, as if the set had been closed; and the handle
-    /// works on. It takes memory for four vectors of seats. Where that is refused, or a seat is
+    /// works on. It takes memory for three vectors of seats. Where that is refused, or a seat is
     /// missing, the handle is as it was.
     pub fn settle(&mut self, alloc: Global) -> Result<u64, SettleFault>
         ensures all { (result ≡ Err fault.NotAll) ↔ (IsWhole self.old → ⊥) }

@@ -11,7 +11,7 @@ use std::alloc::Global;
 impl LongSet {
     /// With all seats: how many keys the set has, exactly. Afterwards each seat's log is one and the
     /// same log of all calls that were made, as if the set had been finished; and the set goes on.
-    /// It takes memory for three vectors of seats. Where that is refused, or a seat is missing, the
+    /// It takes memory for two vectors of seats. Where that is refused, or a seat is missing, the
     /// seats are as they were.
     pub fn settle(&self, alloc: Global, seats: &mut Vec<Seat>) -> Result<u64, SettleFault>
         requires own { AreMine self.now seats.old.items }
