@@ -1,5 +1,5 @@
-//! `nb_dedup` prints each line of standard input once, where it comes first, as `awk '!n[$0]++'`
-//! does. What it writes for what it reads is the contract of `print_once`.
+//! `nb_dedup` prints each line of files or of standard input once, where it comes first, as
+//! `awk '!n[$0]++'` does. What it writes for what it reads is the contract of `print_once`.
 //!
 //! With `--numbers` it prints each number once, as `sort -nu` does: the jobs that workers take from a
 //! list in which jobs come again, each by the worker that comes first. That shows how threads share a
@@ -14,12 +14,11 @@ pub(crate) mod printing;
 pub(crate) mod serve;
 pub(crate) mod taking;
 
-use nb_lines::{ProgressMeter, end_of, size_of_input};
+use nb_lines::end_of;
 use std::io::IsTerminal;
 use std::process::ExitCode;
 
 fn main(rt: HostRuntime) -> ExitCode {
-    let progress = ProgressMeter::new(rt.stderr().is_terminal(), size_of_input(&rt));
-    let served = serve::serve(&rt, rt.stdin(), progress);
+    let served = serve::serve(&rt, &rt, rt.stdin(), rt.stderr().is_terminal());
     ExitCode::from(end_of(&rt, options::LINE.name, served))
 }

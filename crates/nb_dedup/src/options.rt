@@ -2,8 +2,8 @@
 
 use nb_core::Shape;
 use nb_lines::{
-    Argument, CommandLine, Form, Given, MANY_KEYS, MEMORY, NumberWord, ProgramFault, WORKERS,
-    WordsFault, wrong_word,
+    Argument, CommandLine, FILES, Form, Given, MANY_KEYS, MEMORY, NumberWord, ProgramFault,
+    WORKERS, WordsFault, wrong_word,
 };
 use nb_texts::{CATALOG_EACH, MemoryLimit};
 use std::alloc::Global;
@@ -91,9 +91,10 @@ a";
 /// The command line.
 pub(crate) const LINE: CommandLine = CommandLine {
     name: "nb_dedup",
-    about: "Prints each line of standard input once, like awk '!n[$0]++'",
+    about: "Prints each line of files or standard input once, like awk '!n[$0]++'",
     more: Some(MORE),
     arguments: &[
+        FILES,
         Argument {
             form: Form::Number(WORKERS, "N"),
             default: Some("4"),

@@ -1,14 +1,16 @@
 //! The words of the command line, and what a process tells at its end.
 
 use crate::faults::{ProgramFault, WordsFault};
+use crate::inputs::STANDARD_INPUT;
 use crate::numbers::NumberWord;
-use clap::error::ErrorKind;
+use clap::error::ErrorKind as WordsErrorKind;
 use clap::{Arg, ArgAction, ArgMatches, Command};
 use nb_core::OutOfMemory;
 use std::alloc::Global;
+use std::env;
 use std::fmt::Display;
+use std::io::ErrorKind;
 use std::rt::Env;
-use std::{env, io};
 
 /// The version of the programs, as the file VERSION has it.
 pub const VERSION: &str = "0.9.0";
@@ -17,7 +19,7 @@ pub const VERSION: &str = "0.9.0";
 fn words_of<R: Env + AllocGlobal>(rt: &R) -> Result<Vec<String>, WordsFault> {
     let given = match env::args(rt) {
         Ok(given) => given,
-        Err(error) if error.kind() == io::ErrorKind::OutOfMemory => {
+        Err(error) if error.kind() == ErrorKind::OutOfMemory => {
             return Err(WordsFault::OutOfMemory);
         }
         Err(_) => return Err(WordsFault::NoText),
@@ -41,6 +43,8 @@ pub enum Form {
     Text(&'static str, &'static str),
     /// A word that stands alone in its place. It must be given unless it has a default.
     Place(&'static str),
+    /// Words that stand alone, as many as come.
+    Places(&'static str),
 }
 
 /// An argument that a command line may have, and what the help tells of it.
@@ -53,10 +57,10 @@ pub struct Argument {
 }
 
 impl Argument {
-    fn name(&self) -> &'static str {
+    pub fn name(&self) -> &'static str {
         match self.form {
             Form::Number(number, _) => number.name,
-            Form::Flag(name) | Form::Text(name, _) | Form::Place(name) => name,
+            Form::Flag(name) | Form::Text(name, _) | Form::Place(name) | Form::Places(name) => name,
         }
     }
 
@@ -75,6 +79,7 @@ impl Argument {
                 .action(ArgAction::Set)
                 .value_name(value),
             Form::Place(_) => arg.action(ArgAction::Set).required(self.default.is_none()),
+            Form::Places(_) => arg.num_args(1..).action(ArgAction::Append),
         };
         match self.default {
             Some(default) => arg.default_value(default),
@@ -82,13 +87,25 @@ impl Argument {
         }
     }
 
-    /// The text that clap's matches have of it. That of a flag is empty.
-    fn text_of<'a>(&self, matches: &ArgMatches<'a>) -> Option<&'a str> {
-        match self.form {
-            Form::Flag(_) if matches.get_flag(self.id()) => Some(""),
-            Form::Flag(_) => None,
-            _ => matches.get_str(self.id()),
+    /// The texts that clap's matches have of it. That of a flag is empty.
+    fn texts_in(
+        &self,
+        alloc: Global,
+        matches: &ArgMatches<'_>,
+    ) -> Result<Vec<String>, OutOfMemory> {
+        let mut texts = Vec::new(alloc);
+        if let Form::Flag(_) = self.form {
+            if matches.get_flag(self.id()) {
+                texts.push(String::new(alloc))?;
+            }
+            return Ok(texts);
         }
+        if let Some(given) = matches.get_strs(self.id()) {
+            for text in given {
+                texts.push(String::from_str(alloc, text)?)?;
+            }
+        }
+        Ok(texts)
     }
 }
 
@@ -132,23 +149,20 @@ impl CommandLine {
     fn found_in(&self, alloc: Global, matches: &ArgMatches<'_>) -> Result<Given, WordsFault> {
         let mut found = Vec::new(alloc);
         for argument in self.arguments {
-            if let Some(text) = argument.text_of(matches) {
-                let text = String::from_str(alloc, text)?;
-                found.push(Found {
-                    name: argument.name(),
-                    text,
-                })?;
-            }
+            found.push(Found {
+                name: argument.name(),
+                texts: argument.texts_in(alloc, matches)?,
+            })?;
         }
         Ok(Given { found })
     }
 }
 
-/// An argument that was given, or its default.
+/// What was given as an argument, or its default: nothing, one text, or many words that stand alone.
 #[derive(Drop)]
 struct Found {
     name: &'static str,
-    text: String,
+    texts: Vec<String>,
 }
 
 /// What a command line gives.
@@ -158,14 +172,19 @@ pub struct Given {
 }
 
 impl Given {
-    /// The text behind an argument's name, or its default. There is none where neither is.
-    pub fn text(&self, name: &str) -> Option<&str> {
+    /// The texts that were given for an argument's name, or its default.
+    pub fn texts(&self, name: &str) -> &[String] {
         for found in self.found.iter() {
             if found.name == name {
-                return Some(found.text.as_str());
+                return found.texts.as_slice();
             }
         }
-        None
+        &[]
+    }
+
+    /// The text behind an argument's name, or its default. There is none where neither is.
+    pub fn text(&self, name: &str) -> Option<&str> {
+        Some(self.texts(name).first()?.as_str())
     }
 
     /// Whether a flag is set.
@@ -196,6 +215,13 @@ pub const MEMORY: NumberWord = NumberWord {
     high: 1_152_921_504_606_846_975,
 };
 
+/// `FILE..`: what is read, one after another.
+pub const FILES: Argument = Argument {
+    form: Form::Places("FILE"),
+    default: Some(STANDARD_INPUT),
+    help: "Read these files, one after another; - is standard input",
+};
+
 /// What is said of a word that isn't what its name asks for.
 pub fn wrong_word(alloc: Global, name: &str, word: &str, complaint: &str) -> WordsFault {
     match format!(in alloc; "{name} {word}: {complaint}") {
@@ -207,8 +233,10 @@ pub fn wrong_word(alloc: Global, name: &str, word: &str, complaint: &str) -> Wor
 /// What clap's error comes to.
 fn fault_of_words(alloc: Global, error: &clap::Error) -> WordsFault {
     match error.kind() {
-        ErrorKind::OutOfMemory => WordsFault::OutOfMemory,
-        ErrorKind::DisplayHelp | ErrorKind::DisplayVersion => match error.to_string(alloc) {
+        WordsErrorKind::OutOfMemory => WordsFault::OutOfMemory,
+        WordsErrorKind::DisplayHelp | WordsErrorKind::DisplayVersion => match error.to_string(
+            alloc,
+        ) {
             Ok(text) => WordsFault::Answered(text),
             Err(_) => WordsFault::OutOfMemory,
         },
@@ -239,9 +267,11 @@ fn complaint_of(alloc: Global, error: &clap::Error) -> Result<String, OutOfMemor
 
 /// Writes what the words ask for, such as the help, and answers the exit status.
 pub fn answer<R: Print + Eprint>(rt: &R, name: &str, text: &str) -> u8 {
+    let status = ProgramFault::Write.status();
     match print!(rt; "{text}") {
         Ok(()) => 0,
-        Err(_) => complain(rt, name, &ProgramFault::Write, ProgramFault::Write.status()),
+        Err(fault) if fault.kind() == ErrorKind::BrokenPipe => status,
+        Err(_) => complain(rt, name, &ProgramFault::Write, status),
     }
 }
 
@@ -256,6 +286,7 @@ pub fn end_of<R: Print + Eprint>(rt: &R, name: &str, ended: Result<(), ProgramFa
     match ended {
         Ok(()) => 0,
         Err(ProgramFault::Words(WordsFault::Answered(text))) => answer(rt, name, text.as_str()),
+        Err(ProgramFault::Unread) => ProgramFault::Unread.status(),
         Err(fault) => {
             let status = fault.status();
             complain(rt, name, &fault, status)

@@ -125,8 +125,14 @@ pub enum ProgramFault {
     Usage,
     #[error("read failed")]
     Read,
+    /// What a file is called, and why it can't be opened or read.
+    #[error("{0}: {1}")]
+    File(String, io::Error),
     #[error("write failed")]
     Write,
+    /// Whoever reads the output has gone. Nothing is said of that.
+    #[error("nobody reads the output")]
+    Unread,
     /// The number of a line, counted from 1, and what is wrong with it.
     #[error("line {0}: {1}")]
     Line(u64, Cause),
@@ -148,7 +154,8 @@ impl ProgramFault {
     pub fn status(&self) -> u8 {
         match self {
             ProgramFault::Words(fault) => fault.status(),
-            ProgramFault::Read | ProgramFault::Write => 1,
+            ProgramFault::Read | ProgramFault::File(..) => 1,
+            ProgramFault::Write | ProgramFault::Unread => 1,
             ProgramFault::Line(..) => 2,
             ProgramFault::Usage => 3,
             ProgramFault::OutOfMemory => 4,

@@ -1,8 +1,6 @@
 //! Progress, which is told on standard error where that is a terminal.
 
 use crate::blocks::Block;
-use std::fs;
-use std::rt::Files;
 use std::time::Duration;
 
 /// From how many blocks to the next progress is told.
@@ -10,9 +8,6 @@ const BLOCKS: usize = 16;
 
 /// What takes away a line on which progress was told, and nothing where there is none.
 const BLANK: &str = "\r                                                                \r";
-
-/// Standard input, as a file.
-const INPUT: &str = "/dev/stdin";
 
 /// How far an input was worked through.
 #[derive(Clone, Copy)]
@@ -121,15 +116,5 @@ impl Seconds {
             let all = self.time.as_secs();
             self.progress.tell_part(rt, seconds, all, "seconds");
         }
-    }
-}
-
-/// How many bytes standard input has, where it is a file.
-pub fn size_of_input(files: &impl Files) -> Option<u64> {
-    let metadata = fs::metadata(files, INPUT).ok()?;
-    if metadata.is_file() {
-        Some(metadata.len())
-    } else {
-        None
     }
 }

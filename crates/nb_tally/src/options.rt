@@ -3,8 +3,8 @@
 use crate::fields::Column;
 use nb_core::{MAX_EXPONENT, Shape};
 use nb_lines::{
-    Argument, CommandLine, Form, Given, MEMORY, NumberWord, ProgramFault, WORKERS, WordsFault,
-    wrong_word,
+    Argument, CommandLine, FILES, Form, Given, MEMORY, NumberWord, ProgramFault, WORKERS,
+    WordsFault, wrong_word,
 };
 use nb_texts::{MemoryLimit, TALLY_EACH};
 use std::alloc::Global;
@@ -152,9 +152,10 @@ Example: printf 'b\\na\\nb\\n' | nb_tally --top 1
 /// The command line.
 pub(crate) const LINE: CommandLine = CommandLine {
     name: "nb_tally",
-    about: "Counts how often each line occurs in standard input, like sort | uniq -c",
+    about: "Counts how often each line occurs in files or standard input, like sort | uniq -c",
     more: Some(MORE),
     arguments: &[
+        FILES,
         Argument {
             form: Form::Number(WORKERS, "N"),
             default: Some("4"),

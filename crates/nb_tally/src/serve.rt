@@ -18,38 +18,51 @@ use crate::lines_counted::{Counted, count_lines};
 use crate::lines_forgotten::Missed;
 use crate::options::{LINE, LineOptions, Options, Task, task_of};
 use crate::printing::{print_counts, print_rows, sort_rows};
-use nb_lines::{ProgramFault, ProgressMeter};
+use nb_lines::{FILES, Inputs, Output, ProgramFault, ProgressMeter};
 use nb_texts::{Hashing, LinePlan, LineTally, Taken};
 use std::alloc::Global;
 use std::io;
-use std::io::Read;
+use std::io::{Read, Write};
 use std::random::RandomSource;
 use std::rt::Env;
 use std::sync::Wait;
 use std::thread::Threads;
 
-/// Serves a process: does what its words ask for.
-pub(crate) fn serve<R, I>(rt: &R, reader: I, progress: ProgressMeter) -> Result<(), ProgramFault>
+/// Serves a process: does what its words ask for. Progress is told if standard error is a terminal.
+pub(crate) fn serve<R, I>(
+    rt: &R,
+    files: &HostRuntime,
+    standard: I,
+    is_terminal: bool,
+) -> Result<(), ProgramFault>
 where
     R: Env + Threads + Sync + Wait + Print + Eprint + AllocGlobal + RandomSource,
     I: Read + Send + Drop,
 {
-    match task_of(rt.alloc(), &LINE.given(rt)?)? {
-        Task::Lines(options) => lines(rt, options, reader, progress),
-        Task::Numbers(options) => numbers(rt, options, reader, progress),
-    }
+    let given = LINE.given(rt)?;
+    let task = task_of(rt.alloc(), &given)?;
+    let mut inputs = Inputs::new(files, standard, given.texts(FILES.name()));
+    let mut output = Output::new(io::writer(rt));
+    let progress = ProgressMeter::new(is_terminal, inputs.size());
+    let ended = match task {
+        Task::Lines(options) => lines(rt, options, &mut inputs, progress, &mut output),
+        Task::Numbers(options) => numbers(rt, options, &mut inputs, progress, &mut output),
+    };
+    ended.map_err(|fault| output.told(inputs.told(rt.alloc(), fault)))
 }
 
 /// Counts lines, and prints what was counted, also where memory ended before the input did.
-fn lines<R, I>(
+fn lines<R, I, W>(
     rt: &R,
     options: LineOptions,
-    reader: I,
+    reader: &mut I,
     progress: ProgressMeter,
+    writer: W,
 ) -> Result<(), ProgramFault>
 where
-    R: Threads + Sync + Wait + Print + Eprint + AllocGlobal + RandomSource,
-    I: Read + Drop,
+    R: Threads + Sync + Wait + Eprint + AllocGlobal + RandomSource,
+    I: Read,
+    W: Write + Drop,
 {
     let plan = LinePlan {
         hashing: Hashing::seeded(rt, options.seed, options.bits)?,
@@ -58,14 +71,12 @@ where
         limit: options.limit,
         progress,
     };
-    let mut reader = reader;
-    let writer = io::writer(rt);
     if options.forgets {
-        let (_, counted, taken) = print_roughly(rt, options, plan, &mut reader, writer)?;
+        let (_, counted, taken) = print_roughly(rt, options, plan, reader, writer)?;
         tell_missed(rt, counted.rough.missed);
         return taken.ended();
     }
-    let (_, _, taken) = print_exactly(rt, options, plan, &mut reader, writer)?;
+    let (_, _, taken) = print_exactly(rt, options, plan, reader, writer)?;
     taken.ended()
 }
 
@@ -81,7 +92,7 @@ fn print_exactly<R, I, W>(
 where
     R: Threads + Sync + Wait + Eprint + AllocGlobal,
     I: Read,
-    W: io::Write + Drop,
+    W: Write + Drop,
     ensures printed { IfOk result (λ done. HasPrinted options None done.1.rough.tally.catalog.texts
         done.1.rough.tally.counts.items (W.contents writer) (W.contents done.0)) }
     ensures whole { IfOk result (λ done. IsTrue done.2.is_whole
@@ -122,7 +133,7 @@ fn print_roughly<R, I, W>(
 where
     R: Threads + Sync + Wait + Eprint + AllocGlobal,
     I: Read,
-    W: io::Write + Drop,
+    W: Write + Drop,
     ensures printed { IfOk result (λ done. HasPrinted options (Some done.1.rough.missed.times)
         done.1.rough.tally.catalog.texts done.1.rough.tally.counts.items
         (W.contents writer) (W.contents done.0)) }
@@ -170,7 +181,7 @@ fn tell_missed<R: Eprint>(rt: &R, missed: Missed) {
 }
 
 /// Prints the lines that are asked for, in the order that is asked for. Answers the writer.
-fn print_tally<W: io::Write + Drop>(
+fn print_tally<W: Write + Drop>(
     alloc: Global,
     writer: W,
     tally: &LineTally,
@@ -188,17 +199,19 @@ fn print_tally<W: io::Write + Drop>(
 }
 
 /// Counts numbers.
-fn numbers<R, I>(
+fn numbers<R, I, W>(
     rt: &R,
     options: Options,
     reader: I,
     progress: ProgressMeter,
+    writer: W,
 ) -> Result<(), ProgramFault>
 where
-    R: Threads + Sync + Wait + Print + Eprint + AllocGlobal,
+    R: Threads + Sync + Wait + Eprint + AllocGlobal,
     I: Read + Send + Drop,
+    W: Write + Drop,
 {
     let counts = tally(rt, rt.alloc(), &options, reader, progress)?;
-    print_counts(rt.alloc(), io::writer(rt), counts, options.top)?;
+    print_counts(rt.alloc(), writer, counts, options.top)?;
     Ok(())
 }

@@ -74,6 +74,32 @@ where
     ensures refused { IfErr result (IsEndedBy (I.remaining reader.old) (T.refuses taker)) }
 {
     let mut source = LineSource::new(alloc, ahead)?;
+    take_from(rt, alloc, &mut source, progress, reader, taker)
+}
+
+/// Takes the lines of an input: [`take_lines`]. What is read is kept in a source that has nothing yet.
+fn take_from<R, I, T>(
+    rt: &R,
+    alloc: Global,
+    source: &mut LineSource,
+    progress: ProgressMeter,
+    reader: &mut I,
+    taker: T,
+) -> Result<(T, Taken), ProgramFault>
+where
+    R: Threads + Sync + Wait + Eprint,
+    I: Read,
+    T: TakesLines + Drop,
+    requires begun { T.has_taken (length source.old.room.items) taker taker [] }
+    requires some { 1 ≤ length source.old.room.items }
+    requires rest { source.old.rest.items ≡ [] }
+    ensures taken { IfOk result (λ done. HasTakenLines (I.remaining reader.old) done.1
+        (T.has_taken (length source.old.room.items) taker done.0)) }
+    ensures left { IfOk result (λ done. done.1.is_whole ≡ false
+        → HasLeft (length source.old.room.items) (I.remaining reader.old) done.1.lines
+        (T.leaves taker done.0)) }
+    ensures refused { IfErr result (IsEndedBy (I.remaining reader.old) (T.refuses taker)) }
+{
     let mut now = taker;
     let mut taken = Taken::NOTHING;
     let mut done = Done::NOTHING;
