@@ -15,10 +15,10 @@ const STANDARD_PATH: &str = "/dev/stdin";
 
 /// Files as one input. Each is opened when the one before it has ended, and begins a line.
 #[derive(Drop)]
-pub struct Inputs<'a, I> {
-    files: &'a HostRuntime,
+pub struct Inputs<'f, 'n, I> {
+    files: &'f HostRuntime,
     standard: I,
-    names: &'a [String],
+    names: &'n [String],
     /// How many files have ended.
     at: usize,
     /// The one that is read, if it was opened and isn't standard input.
@@ -29,8 +29,8 @@ pub struct Inputs<'a, I> {
     failed: Option<io::Error>,
 }
 
-impl<'a, I: Read> Inputs<'a, I> {
-    pub fn new(files: &'a HostRuntime, standard: I, names: &'a [String]) -> Inputs<'a, I> {
+impl<'f, 'n, I: Read> Inputs<'f, 'n, I> {
+    pub fn new(files: &'f HostRuntime, standard: I, names: &'n [String]) -> Inputs<'f, 'n, I> {
         Inputs {
             files,
             standard,
@@ -111,7 +111,7 @@ impl<'a, I: Read> Inputs<'a, I> {
     }
 }
 
-impl<I: Read> Read for Inputs<'_, I> {
+impl<I: Read> Read for Inputs<'_, '_, I> {
     fn read(&mut self, buf: &mut [u8]) -> io::Result<usize> {
         if buf.is_empty() {
             return Ok(0);

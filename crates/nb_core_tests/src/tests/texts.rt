@@ -4,6 +4,7 @@ use nb_lines::{Cause, ProgramFault, WordsFault};
 use std::alloc::Global;
 use std::error::Error;
 use std::fmt::Display;
+use std::io;
 use std::process::Abort;
 
 /// Each of these says its line of the text.
@@ -62,12 +63,15 @@ fn fault_texts_of_programs(rt: HostRuntime) {
     assert_said(&rt, rt.alloc(), &causes, text);
     let help = String::from_str(rt.alloc(), "a help\n").expect(&rt, "memory");
     let wrong = String::from_str(rt.alloc(), "--top 0: not from 1 to 9").expect(&rt, "memory");
+    let file = String::from_str(rt.alloc(), "a.log").expect(&rt, "memory");
     let faults = [
         ProgramFault::Words(WordsFault::NoText),
         ProgramFault::Words(WordsFault::OutOfMemory),
         ProgramFault::Usage,
         ProgramFault::Read,
+        ProgramFault::File(file, io::Error::from_raw_os_error(2)),
         ProgramFault::Write,
+        ProgramFault::Unread,
         ProgramFault::Line(12, Cause::TooLong),
         ProgramFault::Full,
         ProgramFault::TooOften,
@@ -77,7 +81,8 @@ fn fault_texts_of_programs(rt: HostRuntime) {
         ProgramFault::Words(WordsFault::Wrong(wrong)),
     ];
     let text = "a word isn't text; --help tells more\nout of memory\nbad usage; --help tells more\n\
-        read failed\nwrite failed\nline 12: line too long\n\
+        read failed\na.log: No such file or directory (os error 2)\n\
+        write failed\nnobody reads the output\nline 12: line too long\n\
         more different numbers than there is room for\na number comes too often\n\
         stopped behind line 12: more may not fit within --memory\n\
         out of memory\n\
