@@ -1,9 +1,10 @@
 //! What memory a map takes that has all keys.
 
-use crate::crew::filled;
-use crate::faults::BenchFault;
+use crate::crew::put_all;
+use crate::faults::WorkFault;
 use crate::keys::shuffled;
 use crate::options::Options;
+use crate::seats::MapSeat;
 use nb_core::read_number;
 use nb_map::Map;
 use std::alloc::Global;
@@ -38,11 +39,14 @@ pub(crate) fn measure<R: Wait + Files + AllocGlobal>(
     rt: &R,
     alloc: Global,
     options: &Options,
-) -> Result<Option<u64>, BenchFault> {
+) -> Result<Option<u64>, WorkFault> {
     let places = shuffled(alloc, options.keys)?;
     let before = resident(rt);
     let (map, seats) = Map::new(alloc, options.shape()?)?;
-    let _seats = filled(rt, &map, seats, options.spacing, places.as_slice())?;
+    let mut seats = MapSeat::all(alloc, &map, seats)?;
+    if let Some(seat) = seats.first_mut() {
+        put_all(rt, seat, options.spacing, places.as_slice())?;
+    }
     match (before, resident(rt)) {
         (Some(before), Some(after)) => Ok(Some(after.saturating_sub(before))),
         _ => Ok(None),
