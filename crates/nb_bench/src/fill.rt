@@ -72,7 +72,11 @@ fn time_pass<R: Threads + Sync + Wait + Clock + Eprint>(
     pass: Pass,
     places: &[u32],
 ) -> Result<u64, WorkFault> {
-    Ok(pass_once(rt, alloc, options, pass, places)?.tally.nanoseconds)
+    Ok(
+        pass_once(rt, alloc, options, pass, places)?
+            .tally
+            .nanoseconds,
+    )
 }
 
 /// Measures each once.
