@@ -4,9 +4,8 @@ use crate::callers::Caller;
 use crate::faults::{WorkFault, Wrong};
 use crate::keys::{Spacing, number};
 use crate::options::Options;
-use crate::seats::MapSeat;
+use crate::seats::{MapSeat, on_new_map};
 use nb_core::{MAX_SEATS, OutOfMemory};
-use nb_map::Map;
 use std::alloc::Global;
 use std::rt::Clock;
 use std::sync::Wait;
@@ -194,6 +193,22 @@ fn times_of<C: Drop>(alloc: Global, workers: &[Worker<C>]) -> Result<Vec<u64>, O
     Ok(times)
 }
 
+/// The same, by these workers of the map.
+fn done_by<R: Threads + Sync + Wait + Clock + Eprint, J: Job + Sync>(
+    rt: &R,
+    alloc: Global,
+    workers: &mut [Worker<MapSeat<'_>>],
+    spacing: Spacing,
+    places: &[u32],
+    job: &J,
+    keys: usize,
+) -> Result<Done, WorkFault> {
+    let tally = worked(rt, workers, spacing, places, job)?;
+    are_there(workers, keys)?;
+    let times = times_of(alloc, workers)?;
+    Ok(Done { tally, times })
+}
+
 /// Does a job by the seats of a new map, which has numbers at the keys with these places from the
 /// start, and sees that it has so many keys in the end.
 pub(crate) fn do_job<R: Threads + Sync + Wait + Clock + Eprint, J: Job + Sync>(
@@ -204,10 +219,20 @@ pub(crate) fn do_job<R: Threads + Sync + Wait + Clock + Eprint, J: Job + Sync>(
     job: &J,
     keys: usize,
 ) -> Result<Done, WorkFault> {
-    let (map, seats) = Map::new(alloc, options.shape()?)?;
-    let mut workers = hired(alloc, MapSeat::all(alloc, &map, seats)?)?;
-    let tally = worked(rt, workers.as_mut_slice(), options.spacing, places, job)?;
-    are_there(workers.as_mut_slice(), keys)?;
-    let times = times_of(alloc, workers.as_slice())?;
-    Ok(Done { tally, times })
+    on_new_map(
+        alloc,
+        options.shape()?,
+        &|seats: Vec<MapSeat<'_>>| {
+            let mut workers = hired(alloc, seats)?;
+            done_by(
+                rt,
+                alloc,
+                workers.as_mut_slice(),
+                options.spacing,
+                places,
+                job,
+                keys,
+            )
+        },
+    )
 }

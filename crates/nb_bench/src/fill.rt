@@ -4,8 +4,8 @@ use crate::faults::WorkFault;
 use crate::growth::{Pass, pass_once};
 use crate::keys::shuffled;
 use crate::options::Options;
+use crate::seats::{MapSeat, on_new_map};
 use crate::timing::{Watch, nanoseconds_since, now};
-use nb_map::Map;
 use std::alloc::Global;
 use std::rt::Clock;
 use std::sync::Wait;
@@ -58,10 +58,11 @@ impl Times {
 fn time_make<R: Clock>(rt: &R, alloc: Global, options: &Options) -> Result<u64, WorkFault> {
     let shape = options.shape()?;
     let start = now(rt)?;
-    let made = Map::new(alloc, shape)?;
-    let spent = nanoseconds_since(rt, start);
-    drop(made);
-    spent
+    on_new_map(
+        alloc,
+        shape,
+        &|_seats: Vec<MapSeat<'_>>| nanoseconds_since(rt, start),
+    )
 }
 
 /// Makes a pass on a new map, and answers its time.

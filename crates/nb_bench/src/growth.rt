@@ -59,23 +59,21 @@ impl<'a> Growth<'a> {
     }
 
     /// Makes the pass at the keys with these places, and answers how long the longest put took where
-    /// that is asked for.
+    /// that is asked for, or else 0.
     fn pass_at<R: Wait + Clock, C: Caller + Drop>(
         &self,
         rt: &R,
         worker: &mut Worker<C>,
         places: &[u32],
-    ) -> Result<Option<u64>, WorkFault> {
+    ) -> Result<u64, WorkFault> {
         let spacing = self.spacing;
         match self.pass {
+            Pass::LongestPut => return longest_put(rt, &mut worker.caller, spacing, places),
             Pass::Puts => put_all(rt, &mut worker.caller, spacing, places)?,
             Pass::Gets => worker.tally.sum = get_all(rt, &mut worker.caller, spacing, places),
-            Pass::LongestPut => {
-                return Ok(Some(longest_put(rt, &mut worker.caller, spacing, places)?));
-            }
             Pass::TimedPuts => time_puts(rt, worker, spacing, places)?,
         }
-        Ok(None)
+        Ok(0)
     }
 }
 
@@ -90,9 +88,12 @@ impl Job for Growth<'_> {
         self.meeting.meet();
         let start = now(rt)?;
         let longest = self.pass_at(rt, worker, part)?;
-        worker.tally.calls = part.len() as u64;
         let spent = nanoseconds_since(rt, start)?;
-        worker.tally.nanoseconds = longest.unwrap_or(spent);
+        worker.tally.calls = part.len() as u64;
+        worker.tally.nanoseconds = match self.pass {
+            Pass::LongestPut => longest,
+            _ => spent,
+        };
         Ok(())
     }
 }
@@ -233,7 +234,26 @@ fn times_at(alloc: Global, rounds: &[Times], place: usize) -> Result<Vec<u64>, O
 }
 
 /// Makes rounds until the time is up or all threads together have made so many puts, without those
-/// that are timed one by one, and answers the middle one of each of their times.
+/// that are timed one by one, and keeps their times.
+fn make_rounds<R: Threads + Sync + Wait + Clock + Eprint>(
+    rt: &R,
+    alloc: Global,
+    options: &Options,
+    places: &[u32],
+    times: &mut Vec<Times>,
+) -> Result<(), WorkFault> {
+    let mut watch = Watch::start(rt, options.time, options.progress)?;
+    let rounds = options.calls.div_ceil(u64::from(options.keys.max(1)));
+    for _round in 0..rounds.max(1) {
+        times.push(time_round(rt, alloc, options, places)?)?;
+        if watch.is_over(rt)? {
+            break;
+        }
+    }
+    Ok(())
+}
+
+/// Makes rounds, and answers the middle one of each of their times.
 pub(crate) fn measure<R: Threads + Sync + Wait + Clock + Eprint>(
     rt: &R,
     alloc: Global,
@@ -241,13 +261,6 @@ pub(crate) fn measure<R: Threads + Sync + Wait + Clock + Eprint>(
 ) -> Result<Times, WorkFault> {
     let places = shuffled(alloc, options.keys)?;
     let mut times = Vec::new(alloc);
-    let mut watch = Watch::start(rt, options.time, options.progress)?;
-    let rounds = options.calls.div_ceil(u64::from(options.keys.max(1)));
-    for _round in 0..rounds.max(1) {
-        times.push(time_round(rt, alloc, options, places.as_slice())?)?;
-        if watch.is_over(rt)? {
-            break;
-        }
-    }
+    make_rounds(rt, alloc, options, places.as_slice(), &mut times)?;
     middle_of_each(alloc, times.as_slice())
 }

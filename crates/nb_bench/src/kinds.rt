@@ -6,10 +6,9 @@ use crate::crew::put_all;
 use crate::faults::{WorkFault, Wrong};
 use crate::keys::{KEY_COUNT, Spacing, number, shuffled};
 use crate::options::Options;
-use crate::seats::MapSeat;
+use crate::seats::{MapSeat, on_new_map};
 use crate::timing::{Watch, nanoseconds_since, now};
 use nb_core::Num;
-use nb_map::Map;
 use std::alloc::Global;
 use std::rt::Clock;
 use std::sync::Wait;
@@ -122,24 +121,26 @@ fn time_all<R: Wait + Clock>(
 ) -> Result<(u64, u64), WorkFault> {
     let start = now(rt)?;
     let mut sum = 0u64;
+    let mut called = Ok(());
     match kind {
-        Kind::PutNew => put_all(rt, seat, spacing, places)?,
-        Kind::Put => put_other(rt, seat, spacing, places)?,
+        Kind::PutNew => called = put_all(rt, seat, spacing, places),
+        Kind::Put => called = put_other(rt, seat, spacing, places),
         Kind::Get | Kind::GetNone => sum = get_all(rt, seat, spacing, places),
-        Kind::Add => add_all(rt, seat, spacing, places)?,
+        Kind::Add => called = add_all(rt, seat, spacing, places),
         Kind::Remove => remove_all(rt, seat, spacing, places),
     }
+    called?;
     Ok((nanoseconds_since(rt, start)?, sum))
 }
 
-/// Makes calls of all kinds. Where a kind took less time than before, that is its time.
+/// Makes calls of all kinds, and answers how long those of each kind took.
 fn time_kinds<R: Wait + Clock>(
     rt: &R,
     seat: &mut MapSeat<'_>,
     spacing: Spacing,
     places: &[u32],
-    times: &mut [u64; 6],
-) -> Result<(), WorkFault> {
+) -> Result<[u64; 6], WorkFault> {
+    let mut times = [0; 6];
     for (kind, time) in Kind::ALL.iter().zip(times.iter_mut()) {
         let (taken, sum) = time_all(rt, seat, spacing, places, *kind)?;
         let wanted = match kind {
@@ -149,25 +150,56 @@ fn time_kinds<R: Wait + Clock>(
         if sum != wanted {
             return Err(WorkFault::Wrong(Wrong::Sum));
         }
-        *time = taken.min(*time);
+        *time = taken;
     }
-    Ok(())
+    Ok(times)
 }
 
-/// Makes calls of all kinds on a new map, by one of its seats.
-fn time_once<R: Wait + Clock>(
+/// Makes calls of all kinds by the first of the seats, if there is one.
+fn time_by_one<R: Wait + Clock>(
+    rt: &R,
+    seats: &mut [MapSeat<'_>],
+    spacing: Spacing,
+    places: &[u32],
+) -> Result<[u64; 6], WorkFault> {
+    match seats.first_mut() {
+        Some(seat) => time_kinds(rt, seat, spacing, places),
+        None => Ok([u64::MAX; 6]),
+    }
+}
+
+/// Keeps the shorter of each two times.
+fn keep_shorter(times: &mut [u64; 6], taken: &[u64; 6]) {
+    for (time, taken) in times.iter_mut().zip(taken.iter()) {
+        *time = (*taken).min(*time);
+    }
+}
+
+/// Makes calls of all kinds on new maps, again and again until the time is up. Where a kind took
+/// less time than before, that is its time.
+fn time_rounds<R: Wait + Clock + Eprint>(
     rt: &R,
     alloc: Global,
     options: &Options,
     places: &[u32],
     times: &mut [u64; 6],
 ) -> Result<(), WorkFault> {
-    let (map, seats) = Map::new(alloc, options.shape()?)?;
-    let mut seats = MapSeat::all(alloc, &map, seats)?;
-    match seats.first_mut() {
-        Some(seat) => time_kinds(rt, seat, options.spacing, places, times),
-        None => Ok(()),
+    let mut watch = Watch::start(rt, options.time, options.progress)?;
+    for _round in 0..u64::MAX {
+        let taken = on_new_map(
+            alloc,
+            options.shape()?,
+            &|seats: Vec<MapSeat<'_>>| {
+                let mut seats = seats;
+                time_by_one(rt, seats.as_mut_slice(), options.spacing, places)
+            },
+        )?;
+        keep_shorter(times, &taken);
+        if watch.is_over(rt)? {
+            break;
+        }
     }
+    Ok(())
 }
 
 /// Makes calls of all kinds at all keys in new maps, again and again until the time is up. It
@@ -179,12 +211,6 @@ pub(crate) fn measure<R: Wait + Clock + Eprint>(
 ) -> Result<[u64; 6], WorkFault> {
     let places = shuffled(alloc, KEY_COUNT)?;
     let mut times = [u64::MAX; 6];
-    let mut watch = Watch::start(rt, options.time, options.progress)?;
-    for _round in 0..u64::MAX {
-        time_once(rt, alloc, options, places.as_slice(), &mut times)?;
-        if watch.is_over(rt)? {
-            break;
-        }
-    }
+    time_rounds(rt, alloc, options, places.as_slice(), &mut times)?;
     Ok(times)
 }

@@ -2,11 +2,10 @@
 
 use crate::crew::put_all;
 use crate::faults::WorkFault;
-use crate::keys::shuffled;
+use crate::keys::{Spacing, shuffled};
 use crate::options::Options;
-use crate::seats::MapSeat;
+use crate::seats::{MapSeat, on_new_map};
 use nb_core::read_number;
-use nb_map::Map;
 use std::alloc::Global;
 use std::fs;
 use std::rt::Files;
@@ -32,6 +31,43 @@ fn resident<R: Files + AllocGlobal>(rt: &R) -> Option<u64> {
     }
 }
 
+/// Puts numbers at the keys with these places by the first of the seats, and answers the bytes of
+/// this process that are in memory then, if Linux tells.
+fn resident_filled<R: Wait + Files + AllocGlobal>(
+    rt: &R,
+    seats: &mut [MapSeat<'_>],
+    spacing: Spacing,
+    places: &[u32],
+) -> Result<Option<u64>, WorkFault> {
+    if let Some(seat) = seats.first_mut() {
+        put_all(rt, seat, spacing, places)?;
+    }
+    Ok(resident(rt))
+}
+
+/// By how many bytes this process grows in memory while a new map is made and gets numbers at the
+/// keys with these places, if Linux tells.
+fn growth_of<R: Wait + Files + AllocGlobal>(
+    rt: &R,
+    alloc: Global,
+    options: &Options,
+    places: &[u32],
+) -> Result<Option<u64>, WorkFault> {
+    let before = resident(rt);
+    let after = on_new_map(
+        alloc,
+        options.shape()?,
+        &|seats: Vec<MapSeat<'_>>| {
+            let mut seats = seats;
+            resident_filled(rt, seats.as_mut_slice(), options.spacing, places)
+        },
+    )?;
+    match (before, after) {
+        (Some(before), Some(after)) => Ok(Some(after.saturating_sub(before))),
+        _ => Ok(None),
+    }
+}
+
 /// Makes a map that has all keys, and answers how many bytes more of this process are in memory
 /// then, if Linux tells. It measures something only before other maps were made: their memory may
 /// be taken again.
@@ -41,14 +77,5 @@ pub(crate) fn measure<R: Wait + Files + AllocGlobal>(
     options: &Options,
 ) -> Result<Option<u64>, WorkFault> {
     let places = shuffled(alloc, options.keys)?;
-    let before = resident(rt);
-    let (map, seats) = Map::new(alloc, options.shape()?)?;
-    let mut seats = MapSeat::all(alloc, &map, seats)?;
-    if let Some(seat) = seats.first_mut() {
-        put_all(rt, seat, options.spacing, places.as_slice())?;
-    }
-    match (before, resident(rt)) {
-        (Some(before), Some(after)) => Ok(Some(after.saturating_sub(before))),
-        _ => Ok(None),
-    }
+    growth_of(rt, alloc, options, places.as_slice())
 }

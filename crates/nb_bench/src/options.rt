@@ -320,6 +320,7 @@ fn options_of(alloc: Global, given: &Given) -> Result<Options, WordsFault> {
     let (spacing, law) = read_keys(alloc, given.text("--keys").unwrap_or("dense"))?;
     let time = read_time(alloc, given.text("SECONDS").unwrap_or("1"))?;
     let calls = CALLS.find(alloc, given)?.unwrap_or(u64::MAX);
+    let by = read_by(alloc, given.text("--by").unwrap_or("seat"))?;
     Ok(Options {
         workload,
         threads: threads as usize,
@@ -328,7 +329,7 @@ fn options_of(alloc: Global, given: &Given) -> Result<Options, WordsFault> {
         keys,
         spacing,
         law,
-        by: read_by(alloc, given.text("--by").unwrap_or("seat"))?,
+        by,
         calls,
         progress: ProgressMeter::NONE,
     })

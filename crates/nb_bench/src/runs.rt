@@ -6,11 +6,11 @@ use crate::draws::{BATCH, Calls, Draws};
 use crate::faults::WorkFault;
 use crate::keys::{Law, samples_of, shuffled};
 use crate::options::Options;
-use crate::seats::MapSeat;
+use crate::seats::{MapSeat, on_new_map};
 use crate::workloads::{Mix, Workload};
 use nb_core::{MAX_SEATS, OutOfMemory};
 use nb_lasting::SharedLasting;
-use nb_map::{Handle, Map};
+use nb_map::Handle;
 use std::alloc::Global;
 use std::rt::Clock;
 use std::sync::Wait;
@@ -66,8 +66,11 @@ fn called_by<R: Threads + Sync + Wait + Clock + Eprint>(
 ) -> Result<Tally, WorkFault> {
     match options.by {
         By::Seat => {
-            let (map, seats) = Map::new(alloc, options.shape()?)?;
-            called(rt, alloc, MapSeat::all(alloc, &map, seats)?, places, job)
+            on_new_map(
+                alloc,
+                options.shape()?,
+                &|seats: Vec<MapSeat<'_>>| { called(rt, alloc, seats, places, job) },
+            )
         }
         By::Handle => match Handle::open(alloc, options.shape()?)?.split_all(alloc) {
             Ok(handles) => called(rt, alloc, handles, places, job),

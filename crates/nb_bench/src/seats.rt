@@ -2,7 +2,7 @@
 ghost use Rattle.nb_map.specs.Maps.{AreMine};
 
 use crate::faults::WorkFault;
-use nb_core::{Key, Num, OutOfMemory};
+use nb_core::{Key, Num, OutOfMemory, Shape};
 use nb_map::{Map, Seat};
 use std::alloc::Global;
 use std::marker::Model;
@@ -25,13 +25,21 @@ impl<'a> Model for MapSeat<'a> {
     ghost invariant = { λ it. IsMine it.map.now it.seat };
 }
 
+/// Does something with all seats of a new map.
+pub(crate) fn on_new_map<T, F: Fn(Vec<MapSeat<'_>>) -> Result<T, WorkFault>>(
+    alloc: Global,
+    shape: Shape,
+    done: &F,
+) -> Result<T, WorkFault>
+    requires { F.IsAlwaysCallable done.now }
+{
+    let (map, seats) = Map::new(alloc, shape)?;
+    done(MapSeat::all(alloc, &map, seats)?)
+}
+
 impl<'a> MapSeat<'a> {
     /// All seats of a map, beside it, the last one first.
-    pub(crate) fn all(
-        alloc: Global,
-        map: &'a Map,
-        seats: Vec<Seat>,
-    ) -> Result<Vec<MapSeat<'a>>, OutOfMemory>
+    fn all(alloc: Global, map: &'a Map, seats: Vec<Seat>) -> Result<Vec<MapSeat<'a>>, OutOfMemory>
         requires own { AreMine map.now seats.items }
     {
         let mut seats = seats;
