@@ -1,7 +1,7 @@
-//! What makes calls: a seat of a map, a handle of one, or a guest of a map without an end.
+//! What makes calls: a seat of a map ([`MapSeat`](crate::seats::MapSeat)), a handle of one, or a guest of
+//! a map without an end.
 
 use crate::faults::WorkFault;
-use crate::seats::MapSeat;
 use nb_core::{Key, Num};
 use nb_lasting::Guest;
 use nb_map::Handle;
@@ -40,23 +40,6 @@ pub(crate) trait Caller {
 
     /// Takes out a key.
     fn remove<R: Wait>(&mut self, rt: &R, key: Key);
-}
-
-impl<'a> Caller for MapSeat<'a> {
-    #[inline(always)]
-    fn get<R: Wait>(&mut self, _rt: &R, key: Key) -> Option<Num> {
-        MapSeat::get(self, key)
-    }
-
-    #[inline(always)]
-    fn put<R: Wait>(&mut self, rt: &R, key: Key, number: Num) -> Result<(), WorkFault> {
-        MapSeat::put(self, rt, key, number)
-    }
-
-    #[inline(always)]
-    fn remove<R: Wait>(&mut self, rt: &R, key: Key) {
-        MapSeat::remove(self, rt, key);
-    }
 }
 
 impl Caller for Handle {

@@ -4,7 +4,7 @@ use crate::callers::Caller;
 use crate::faults::{WorkFault, Wrong};
 use crate::keys::{Spacing, number};
 use crate::options::Options;
-use crate::seats::{MapSeat, on_new_map};
+use crate::seats::MapSeat;
 use nb_core::{MAX_SEATS, OutOfMemory};
 use std::alloc::Global;
 use std::rt::Clock;
@@ -159,7 +159,7 @@ where
 }
 
 /// Sees that the map of these workers, who have ended, has so many keys.
-fn are_there(workers: &mut [Worker<MapSeat<'_>>], keys: usize) -> Result<(), WorkFault> {
+fn are_there(workers: &mut [Worker<MapSeat>], keys: usize) -> Result<(), WorkFault> {
     if let Some(first) = workers.first_mut() {
         if first.caller.size() != keys as u64 {
             return Err(WorkFault::Wrong(Wrong::Size));
@@ -193,11 +193,12 @@ fn times_of<C: Drop>(alloc: Global, workers: &[Worker<C>]) -> Result<Vec<u64>, O
     Ok(times)
 }
 
-/// The same, by these workers of the map.
+/// The workers do a job, once there are numbers at the keys with these places. It sees that their
+/// map has so many keys in the end.
 fn done_by<R: Threads + Sync + Wait + Clock + Eprint, J: Job + Sync>(
     rt: &R,
     alloc: Global,
-    workers: &mut [Worker<MapSeat<'_>>],
+    workers: &mut [Worker<MapSeat>],
     spacing: Spacing,
     places: &[u32],
     job: &J,
@@ -219,20 +220,14 @@ pub(crate) fn do_job<R: Threads + Sync + Wait + Clock + Eprint, J: Job + Sync>(
     job: &J,
     keys: usize,
 ) -> Result<Done, WorkFault> {
-    on_new_map(
+    let mut workers = hired(alloc, MapSeat::open(alloc, options.shape()?)?)?;
+    done_by(
+        rt,
         alloc,
-        options.shape()?,
-        &|seats: Vec<MapSeat<'_>>| {
-            let mut workers = hired(alloc, seats)?;
-            done_by(
-                rt,
-                alloc,
-                workers.as_mut_slice(),
-                options.spacing,
-                places,
-                job,
-                keys,
-            )
-        },
+        workers.as_mut_slice(),
+        options.spacing,
+        places,
+        job,
+        keys,
     )
 }

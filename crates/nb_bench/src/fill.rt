@@ -4,7 +4,7 @@ use crate::faults::WorkFault;
 use crate::growth::{Pass, pass_once};
 use crate::keys::shuffled;
 use crate::options::Options;
-use crate::seats::{MapSeat, on_new_map};
+use crate::seats::MapSeat;
 use crate::timing::{Watch, nanoseconds_since, now};
 use std::alloc::Global;
 use std::rt::Clock;
@@ -58,11 +58,10 @@ impl Times {
 fn time_make<R: Clock>(rt: &R, alloc: Global, options: &Options) -> Result<u64, WorkFault> {
     let shape = options.shape()?;
     let start = now(rt)?;
-    on_new_map(
-        alloc,
-        shape,
-        &|_seats: Vec<MapSeat<'_>>| nanoseconds_since(rt, start),
-    )
+    let seats = MapSeat::open(alloc, shape)?;
+    let spent = nanoseconds_since(rt, start);
+    drop(seats);
+    spent
 }
 
 /// Makes a pass on a new map, and answers its time.

@@ -6,7 +6,7 @@ use crate::crew::put_all;
 use crate::faults::{WorkFault, Wrong};
 use crate::keys::{KEY_COUNT, Spacing, number, shuffled};
 use crate::options::Options;
-use crate::seats::{MapSeat, on_new_map};
+use crate::seats::MapSeat;
 use crate::timing::{Watch, nanoseconds_since, now};
 use nb_core::Num;
 use std::alloc::Global;
@@ -62,7 +62,7 @@ impl Kind {
 #[inline(never)]
 fn put_other<R: Wait>(
     rt: &R,
-    seat: &mut MapSeat<'_>,
+    seat: &mut MapSeat,
     spacing: Spacing,
     places: &[u32],
 ) -> Result<(), WorkFault> {
@@ -92,7 +92,7 @@ pub(crate) fn get_all<R: Wait, C: Caller>(
 #[inline(never)]
 fn add_all<R: Wait>(
     rt: &R,
-    seat: &mut MapSeat<'_>,
+    seat: &mut MapSeat,
     spacing: Spacing,
     places: &[u32],
 ) -> Result<(), WorkFault> {
@@ -104,7 +104,7 @@ fn add_all<R: Wait>(
 
 /// Takes out each of the keys.
 #[inline(never)]
-fn remove_all<R: Wait>(rt: &R, seat: &mut MapSeat<'_>, spacing: Spacing, places: &[u32]) {
+fn remove_all<R: Wait>(rt: &R, seat: &mut MapSeat, spacing: Spacing, places: &[u32]) {
     for place in places {
         seat.remove(rt, spacing.key(*place));
     }
@@ -114,7 +114,7 @@ fn remove_all<R: Wait>(rt: &R, seat: &mut MapSeat<'_>, spacing: Spacing, places:
 /// sum of what they read.
 fn time_all<R: Wait + Clock>(
     rt: &R,
-    seat: &mut MapSeat<'_>,
+    seat: &mut MapSeat,
     spacing: Spacing,
     places: &[u32],
     kind: Kind,
@@ -136,7 +136,7 @@ fn time_all<R: Wait + Clock>(
 /// Makes calls of all kinds, and answers how long those of each kind took.
 fn time_kinds<R: Wait + Clock>(
     rt: &R,
-    seat: &mut MapSeat<'_>,
+    seat: &mut MapSeat,
     spacing: Spacing,
     places: &[u32],
 ) -> Result<[u64; 6], WorkFault> {
@@ -155,15 +155,16 @@ fn time_kinds<R: Wait + Clock>(
     Ok(times)
 }
 
-/// Makes calls of all kinds by the first of the seats, if there is one.
-fn time_by_one<R: Wait + Clock>(
+/// Makes calls of all kinds on a new map, by the first of its seats.
+fn time_once<R: Wait + Clock>(
     rt: &R,
-    seats: &mut [MapSeat<'_>],
-    spacing: Spacing,
+    alloc: Global,
+    options: &Options,
     places: &[u32],
 ) -> Result<[u64; 6], WorkFault> {
+    let mut seats = MapSeat::open(alloc, options.shape()?)?;
     match seats.first_mut() {
-        Some(seat) => time_kinds(rt, seat, spacing, places),
+        Some(seat) => time_kinds(rt, seat, options.spacing, places),
         None => Ok([u64::MAX; 6]),
     }
 }
@@ -186,14 +187,7 @@ fn time_rounds<R: Wait + Clock + Eprint>(
 ) -> Result<(), WorkFault> {
     let mut watch = Watch::start(rt, options.time, options.progress)?;
     for _round in 0..u64::MAX {
-        let taken = on_new_map(
-            alloc,
-            options.shape()?,
-            &|seats: Vec<MapSeat<'_>>| {
-                let mut seats = seats;
-                time_by_one(rt, seats.as_mut_slice(), options.spacing, places)
-            },
-        )?;
+        let taken = time_once(rt, alloc, options, places)?;
         keep_shorter(times, &taken);
         if watch.is_over(rt)? {
             break;

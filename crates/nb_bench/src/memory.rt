@@ -4,7 +4,7 @@ use crate::crew::put_all;
 use crate::faults::WorkFault;
 use crate::keys::{Spacing, shuffled};
 use crate::options::Options;
-use crate::seats::{MapSeat, on_new_map};
+use crate::seats::MapSeat;
 use nb_core::read_number;
 use std::alloc::Global;
 use std::fs;
@@ -35,7 +35,7 @@ fn resident<R: Files + AllocGlobal>(rt: &R) -> Option<u64> {
 /// this process that are in memory then, if Linux tells.
 fn resident_filled<R: Wait + Files + AllocGlobal>(
     rt: &R,
-    seats: &mut [MapSeat<'_>],
+    seats: &mut [MapSeat],
     spacing: Spacing,
     places: &[u32],
 ) -> Result<Option<u64>, WorkFault> {
@@ -54,14 +54,8 @@ fn growth_of<R: Wait + Files + AllocGlobal>(
     places: &[u32],
 ) -> Result<Option<u64>, WorkFault> {
     let before = resident(rt);
-    let after = on_new_map(
-        alloc,
-        options.shape()?,
-        &|seats: Vec<MapSeat<'_>>| {
-            let mut seats = seats;
-            resident_filled(rt, seats.as_mut_slice(), options.spacing, places)
-        },
-    )?;
+    let mut seats = MapSeat::open(alloc, options.shape()?)?;
+    let after = resident_filled(rt, seats.as_mut_slice(), options.spacing, places)?;
     match (before, after) {
         (Some(before), Some(after)) => Ok(Some(after.saturating_sub(before))),
         _ => Ok(None),

@@ -6,7 +6,7 @@ use crate::draws::{BATCH, Calls, Draws};
 use crate::faults::WorkFault;
 use crate::keys::{Law, samples_of, shuffled};
 use crate::options::Options;
-use crate::seats::{MapSeat, on_new_map};
+use crate::seats::MapSeat;
 use crate::workloads::{Mix, Workload};
 use nb_core::{MAX_SEATS, OutOfMemory};
 use nb_lasting::SharedLasting;
@@ -55,8 +55,34 @@ fn called<R: Threads + Sync + Wait + Clock + Eprint, C: Caller + Drop + Send>(
     worked(rt, workers.as_mut_slice(), job.spacing, places, job)
 }
 
-/// Makes the calls of a job on a new map, by what the options ask for, once it has numbers at the
-/// keys with these places.
+/// The same by the handles of a new map.
+fn called_by_handles<R: Threads + Sync + Wait + Clock + Eprint>(
+    rt: &R,
+    alloc: Global,
+    options: &Options,
+    places: &[u32],
+    job: &Draws<'_>,
+) -> Result<Tally, WorkFault> {
+    match Handle::open(alloc, options.shape()?)?.split_all(alloc) {
+        Ok(handles) => called(rt, alloc, handles, places, job),
+        Err(_) => Err(WorkFault::OutOfMemory),
+    }
+}
+
+/// The same by the guests of a new map without an end.
+fn called_by_guests<R: Threads + Sync + Wait + Clock + Eprint>(
+    rt: &R,
+    alloc: Global,
+    options: &Options,
+    places: &[u32],
+    job: &Draws<'_>,
+) -> Result<Tally, WorkFault> {
+    let threads = options.threads.clamp(1, MAX_SEATS);
+    let (_shared, guests) = SharedLasting::open(alloc, threads, options.keys as usize)?;
+    called(rt, alloc, guests, places, job)
+}
+
+/// The same on a new map, by what the options ask for.
 fn called_by<R: Threads + Sync + Wait + Clock + Eprint>(
     rt: &R,
     alloc: Global,
@@ -65,22 +91,15 @@ fn called_by<R: Threads + Sync + Wait + Clock + Eprint>(
     job: &Draws<'_>,
 ) -> Result<Tally, WorkFault> {
     match options.by {
-        By::Seat => {
-            on_new_map(
-                alloc,
-                options.shape()?,
-                &|seats: Vec<MapSeat<'_>>| { called(rt, alloc, seats, places, job) },
-            )
-        }
-        By::Handle => match Handle::open(alloc, options.shape()?)?.split_all(alloc) {
-            Ok(handles) => called(rt, alloc, handles, places, job),
-            Err(_) => Err(WorkFault::OutOfMemory),
-        },
-        By::Guest => {
-            let threads = options.threads.clamp(1, MAX_SEATS);
-            let (_shared, guests) = SharedLasting::open(alloc, threads, options.keys as usize)?;
-            called(rt, alloc, guests, places, job)
-        }
+        By::Seat => called(
+            rt,
+            alloc,
+            MapSeat::open(alloc, options.shape()?)?,
+            places,
+            job,
+        ),
+        By::Handle => called_by_handles(rt, alloc, options, places, job),
+        By::Guest => called_by_guests(rt, alloc, options, places, job),
     }
 }
 

@@ -72,20 +72,7 @@ where
     }
 }
 
-/// Has keys come and go, and prints a line, with `full` at its end if a map was full.
-fn run_churn<R: Threads + Sync + Wait + Clock + Print + Eprint>(
-    rt: &R,
-    alloc: Global,
-    options: &Options,
-) -> Result<(), BenchFault> {
-    let threads = options.threads;
-    let churned = churn::measure(rt, alloc, options)?;
-    let (calls, nanoseconds) = (churned.calls, churned.nanoseconds);
-    let full = if churned.is_full { " full" } else { "" };
-    written(println!(rt; "nb G {threads} {calls} {nanoseconds}{full}"))
-}
-
-/// Runs a workload for its time, and prints its line.
+/// Runs a workload that prints one line, with `full` at its end if a map was full.
 fn run_timed<R: Threads + Sync + Wait + Clock + Print + Eprint>(
     rt: &R,
     alloc: Global,
@@ -93,12 +80,18 @@ fn run_timed<R: Threads + Sync + Wait + Clock + Print + Eprint>(
 ) -> Result<(), BenchFault> {
     let name = options.workload.name();
     let threads = options.threads;
+    let tally = match options.workload {
+        Workload::Churn => churn::measure(rt, alloc, options),
+        _ => runs::measure(rt, alloc, options),
+    };
     let Tally {
         calls,
         nanoseconds,
+        is_full,
         ..
-    } = runs::measure(rt, alloc, options)?;
-    written(println!(rt; "nb {name} {threads} {calls} {nanoseconds}"))
+    } = tally?;
+    let full = if is_full { " full" } else { "" };
+    written(println!(rt; "nb {name} {threads} {calls} {nanoseconds}{full}"))
 }
 
 /// Runs what the options ask for.
@@ -110,7 +103,6 @@ where
         Workload::Kinds => run_kinds(rt, alloc, options),
         Workload::Growth => run_growth(rt, alloc, options),
         Workload::Fill => run_fill(rt, alloc, options),
-        Workload::Churn => run_churn(rt, alloc, options),
         _ => run_timed(rt, alloc, options),
     }
 }
