@@ -1,15 +1,14 @@
 //! Keys that come and go: each worker puts new keys, and takes out its oldest ones.
-ghost use Rattle.nb_map.specs.Maps.{IsMine};
 
-use crate::crew::{Job, Worker, do_job};
-use crate::faults::{BenchFault, WorkFault, Wrong};
+use crate::callers::Caller;
+use crate::crew::{Job, Tally, Worker, do_job};
+use crate::faults::WorkFault;
 use crate::growth::middle_of;
 use crate::keys::{Spacing, in_order, number};
 use crate::meeting::Meeting;
 use crate::options::Options;
 use crate::timing::{Watch, nanoseconds_since, now};
 use nb_core::{Key, MOST_KEYS};
-use nb_map::Map;
 use std::alloc::Global;
 use std::rt::Clock;
 use std::sync::Wait;
@@ -81,19 +80,15 @@ impl Churn {
 }
 
 impl Job for Churn {
-    fn work<R: Wait + Clock + Eprint>(
+    fn work<R: Wait + Clock + Eprint, C: Caller + Drop>(
         &self,
         rt: &R,
-        map: &Map,
-        worker: &mut Worker,
+        worker: &mut Worker<C>,
         number: usize,
-    ) -> Result<(), WorkFault>
-        requires own { IsMine map.now worker.old.seat }
-        ensures own { IsMine map.now worker.new.seat }
-    {
+    ) -> Result<(), WorkFault> {
         self.meeting.meet();
         let start = now(rt)?;
-        let made = make_steps(rt, map, worker, self, number);
+        let made = make_steps(rt, &mut worker.caller, self, number);
         worker.tally.nanoseconds = nanoseconds_since(rt, start)?;
         worker.tally.calls = made.wrapping_mul(2);
         worker.tally.is_full = made < self.steps;
@@ -103,49 +98,28 @@ impl Job for Churn {
 
 /// Makes the steps of the worker with this number, until a new key is refused. It answers how many
 /// it made.
-fn make_steps<R: Wait>(rt: &R, map: &Map, worker: &mut Worker, job: &Churn, owner: usize) -> u64
-    requires own { IsMine map.now worker.old.seat }
-    ensures own { IsMine map.now worker.new.seat }
-{
+fn make_steps<R: Wait, C: Caller>(rt: &R, caller: &mut C, job: &Churn, owner: usize) -> u64 {
     for step in 0..job.steps {
         let place = job.newest(step, owner);
         let key = job.spacing.key(place);
-        if map.put(rt, &mut worker.seat, key, number(place)).is_err() {
+        if caller.put(rt, key, number(place)).is_err() {
             return step;
         }
-        map.remove(rt, &mut worker.seat, job.oldest(step, owner));
+        caller.remove(rt, job.oldest(step, owner));
     }
     job.steps
 }
 
-/// What is measured.
-#[derive(Clone, Copy)]
-pub(crate) struct Churned {
-    /// The calls of a round, two for each step.
-    pub(crate) calls: u64,
-    /// How long they took.
-    pub(crate) nanoseconds: u64,
-    /// The map refused a new key, and so the round ended early.
-    pub(crate) is_full: bool,
-}
-
-/// Makes a round on a new map, whose keys with these places have numbers from the start.
+/// Makes a round on a new map, whose keys with these places have numbers from the start: each step
+/// is two calls.
 fn churn_once<R: Threads + Sync + Wait + Clock + Eprint>(
     rt: &R,
     alloc: Global,
     options: &Options,
     places: &[u32],
-) -> Result<Churned, BenchFault> {
+) -> Result<Tally, WorkFault> {
     let job = Churn::new(options);
-    let done = do_job(rt, alloc, options.shape()?, options.spacing, places, &job)?;
-    if done.ended.size() != places.len() as u64 {
-        return Err(BenchFault::Wrong(Wrong::Size));
-    }
-    Ok(Churned {
-        calls: done.tally.calls,
-        nanoseconds: done.tally.nanoseconds,
-        is_full: done.tally.is_full,
-    })
+    Ok(do_job(rt, alloc, options, places, &job, places.len())?.tally)
 }
 
 /// Makes rounds until the time is up, and answers the one with the middle time; or until a map is
@@ -154,7 +128,7 @@ pub(crate) fn measure<R: Threads + Sync + Wait + Clock + Eprint>(
     rt: &R,
     alloc: Global,
     options: &Options,
-) -> Result<Churned, BenchFault> {
+) -> Result<Tally, WorkFault> {
     let places = in_order(alloc, Churn::new(options).start_count())?;
     let mut times = Vec::new(alloc);
     let mut calls = 0;
@@ -170,9 +144,9 @@ pub(crate) fn measure<R: Threads + Sync + Wait + Clock + Eprint>(
             break;
         }
     }
-    Ok(Churned {
+    Ok(Tally {
         calls,
         nanoseconds: middle_of(times)?,
-        is_full: false,
+        ..Tally::NOTHING
     })
 }

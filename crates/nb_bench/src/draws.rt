@@ -1,6 +1,6 @@
 //! Calls at keys that are drawn, for a while.
-ghost use Rattle.nb_map.specs.Maps.{IsMine};
 
+use crate::callers::Caller;
 use crate::crew::{Job, Worker};
 use crate::faults::WorkFault;
 use crate::keys::{SAMPLE_COUNT, Spacing, number};
@@ -9,7 +9,6 @@ use crate::timing::Watch;
 use crate::workloads::Mix;
 use nb_core::{Key, Num};
 use nb_lines::ProgressMeter;
-use nb_map::{Map, Seat};
 use std::rt::Clock;
 use std::sync::Wait;
 use std::time::Duration;
@@ -18,7 +17,7 @@ use std::time::Duration;
 pub(crate) const BATCH: u64 = 1024;
 
 /// Where the one key is that all put at.
-pub(crate) const ONE_PLACE: u32 = 4242;
+const ONE_PLACE: u32 = 4242;
 
 /// Which calls are made.
 #[derive(Clone, Copy)]
@@ -48,7 +47,7 @@ pub(crate) struct Draws<'a> {
 
 impl<'a> Draws<'a> {
     /// A tenth of this job, by which workers warm up.
-    pub(crate) fn tenth(&self) -> Draws<'a> {
+    fn tenth(&self) -> Draws<'a> {
         Draws {
             time: self.time.checked_div(10).unwrap_or(self.time),
             batches: self.batches / 10,
@@ -65,22 +64,22 @@ impl<'a> Draws<'a> {
     }
 
     /// The job of the worker with this number: the first one tells progress.
-    pub(crate) fn part(&self, number: usize) -> Draws<'a> {
+    fn part(&self, number: usize) -> Draws<'a> {
         if number == 0 { *self } else { self.quiet() }
     }
 }
 
 /// What a worker draws with.
 #[derive(Clone, Copy)]
-pub(crate) struct Source {
-    pub(crate) random: Random,
+struct Source {
+    random: Random,
     /// From which of the samples on the next batch is.
     sample: u64,
 }
 
 impl Source {
     /// That of the worker with this number, of so many. They begin at samples far from each other.
-    pub(crate) fn new(number: usize, workers: usize) -> Source {
+    fn new(number: usize, workers: usize) -> Source {
         let batches = (SAMPLE_COUNT / BATCH).wrapping_mul(number as u64);
         Source {
             random: Random::new(number as u64),
@@ -89,7 +88,7 @@ impl Source {
     }
 
     /// The next batch of the samples.
-    pub(crate) fn next_batch<'s>(&mut self, samples: &'s [u32]) -> &'s [u32] {
+    fn next_batch<'s>(&mut self, samples: &'s [u32]) -> &'s [u32] {
         let first = self.sample as usize;
         self.sample = self.sample.wrapping_add(BATCH) % SAMPLE_COUNT;
         let (_, rest) = samples.split_at(first.min(samples.len()));
@@ -99,39 +98,31 @@ impl Source {
 }
 
 impl Job for Draws<'_> {
-    fn work<R: Wait + Clock + Eprint>(
+    fn work<R: Wait + Clock + Eprint, C: Caller + Drop>(
         &self,
         rt: &R,
-        map: &Map,
-        worker: &mut Worker,
+        worker: &mut Worker<C>,
         number: usize,
-    ) -> Result<(), WorkFault>
-        requires own { IsMine map.now worker.old.seat }
-        ensures own { IsMine map.now worker.new.seat }
-    {
+    ) -> Result<(), WorkFault> {
         let mut source = Source::new(number, self.threads);
-        call_on(rt, map, worker, &mut source, &self.tenth())?;
-        call_on(rt, map, worker, &mut source, &self.part(number))
+        call_on(rt, worker, &mut source, &self.tenth())?;
+        call_on(rt, worker, &mut source, &self.part(number))
     }
 }
 
 /// Makes calls until the job's time is up, or its batches are made, and counts them in place of
 /// what was counted before.
-fn call_on<R: Wait + Clock + Eprint>(
+fn call_on<R: Wait + Clock + Eprint, C: Caller + Drop>(
     rt: &R,
-    map: &Map,
-    worker: &mut Worker,
+    worker: &mut Worker<C>,
     source: &mut Source,
     job: &Draws<'_>,
-) -> Result<(), WorkFault>
-    requires own { IsMine map.now worker.old.seat }
-    ensures own { IsMine map.now worker.new.seat }
-{
+) -> Result<(), WorkFault> {
     let mut watch = Watch::start(rt, job.time, job.progress)?;
     let mut calls = 0u64;
     let mut sum = 0u64;
     for _round in 0..job.batches {
-        sum = sum.wrapping_add(call_batch(rt, map, &mut worker.seat, source, job)?);
+        sum = sum.wrapping_add(call_batch(rt, &mut worker.caller, source, job)?);
         calls = calls.wrapping_add(BATCH);
         if watch.is_over(rt)? {
             break;
@@ -144,34 +135,31 @@ fn call_on<R: Wait + Clock + Eprint>(
 }
 
 /// Makes a batch of a job's calls, and answers the sum of what the gets read.
-fn call_batch<R: Wait>(
+fn call_batch<R: Wait, C: Caller>(
     rt: &R,
-    map: &Map,
-    seat: &mut Seat,
+    caller: &mut C,
     source: &mut Source,
     job: &Draws<'_>,
-) -> Result<u64, WorkFault>
-    requires own { IsMine map.now seat.old }
-    ensures own { IsMine map.now seat.new }
-{
-    let mix = job.mix;
+) -> Result<u64, WorkFault> {
     let count = u64::from(job.keys);
     let random = &mut source.random;
     match (job.calls, job.spacing) {
-        (Calls::Mixed, Spacing::Dense) => draw_batch(rt, map, seat, random, mix, &Dense { count }),
+        (Calls::Mixed, Spacing::Dense) => {
+            draw_batch(rt, caller, random, job.mix, &Dense { count })
+        }
         (Calls::Mixed, Spacing::Spread) => {
-            draw_batch(rt, map, seat, random, mix, &Spread { count })
+            draw_batch(rt, caller, random, job.mix, &Spread { count })
         }
         (Calls::Sampled(samples), _) => {
             let places = source.next_batch(samples);
-            draw_batch(rt, map, seat, &mut source.random, mix, &Listed { places })
+            draw_batch(rt, caller, &mut source.random, job.mix, &Listed { places })
         }
-        (Calls::OneKey, _) => put_batch(rt, map, seat, job.spacing),
+        (Calls::OneKey, _) => put_batch(rt, caller, job.spacing),
     }
 }
 
 /// Which keys a batch calls at.
-pub(crate) trait Pick {
+trait Pick {
     /// The key of the call of a turn, from 0 on, for which this number was drawn.
     fn key(&self, turn: u64, drawn: u64) -> Key;
 }
@@ -184,8 +172,8 @@ fn place_of(drawn: u64, count: u64) -> u32 {
 
 /// So many dense keys, each as likely.
 #[derive(Clone, Copy)]
-pub(crate) struct Dense {
-    pub(crate) count: u64,
+struct Dense {
+    count: u64,
 }
 
 impl Pick for Dense {
@@ -196,8 +184,8 @@ impl Pick for Dense {
 
 /// So many spread keys, each as likely.
 #[derive(Clone, Copy)]
-pub(crate) struct Spread {
-    pub(crate) count: u64,
+struct Spread {
+    count: u64,
 }
 
 impl Pick for Spread {
@@ -208,8 +196,8 @@ impl Pick for Spread {
 
 /// The dense keys with these places, one after another.
 #[derive(Clone, Copy)]
-pub(crate) struct Listed<'a> {
-    pub(crate) places: &'a [u32],
+struct Listed<'a> {
+    places: &'a [u32],
 }
 
 impl Pick for Listed<'_> {
@@ -220,19 +208,14 @@ impl Pick for Listed<'_> {
 }
 
 /// Makes a batch of calls at the keys that `pick` picks. It answers the sum of what the gets read.
-/// Each kind of keys has a loop of its own, which doesn't ask for the kind. The calls stand in the
-/// loop: a function around them that may wait would cost a get some instructions.
-fn draw_batch<R: Wait, P: Pick>(
+/// Each kind of keys has a loop of its own, which doesn't ask for the kind.
+fn draw_batch<R: Wait, C: Caller, P: Pick>(
     rt: &R,
-    map: &Map,
-    seat: &mut Seat,
+    caller: &mut C,
     random: &mut Random,
     mix: Mix,
     pick: &P,
-) -> Result<u64, WorkFault>
-    requires own { IsMine map.now seat.old }
-    ensures own { IsMine map.now seat.new }
-{
+) -> Result<u64, WorkFault> {
     let removals_from = mix.gets.wrapping_add(mix.puts);
     let mut row = *random;
     let mut sum = 0u64;
@@ -242,14 +225,11 @@ fn draw_batch<R: Wait, P: Pick>(
         // From 0 to 99, by the upper half of what was drawn.
         let percent = (drawn >> 32).wrapping_mul(100) >> 32;
         if percent < mix.gets {
-            sum = sum.wrapping_add(map.get(seat, key).map_or(0, Num::get));
+            sum = sum.wrapping_add(caller.get(rt, key).map_or(0, Num::get));
         } else if percent < removals_from {
-            let before = map.put(rt, seat, key, number((drawn >> 32) as u32));
-            if before.is_err() {
-                return Err(WorkFault::Full);
-            }
+            caller.put(rt, key, number((drawn >> 32) as u32))?;
         } else {
-            map.remove(rt, seat, key);
+            caller.remove(rt, key);
         }
     }
     *random = row;
@@ -257,21 +237,14 @@ fn draw_batch<R: Wait, P: Pick>(
 }
 
 /// Makes a batch of puts at one key, by turns of two numbers.
-fn put_batch<R: Wait>(
+fn put_batch<R: Wait, C: Caller>(
     rt: &R,
-    map: &Map,
-    seat: &mut Seat,
+    caller: &mut C,
     spacing: Spacing,
-) -> Result<u64, WorkFault>
-    requires own { IsMine map.now seat.old }
-    ensures own { IsMine map.now seat.new }
-{
+) -> Result<u64, WorkFault> {
     let key = spacing.key(ONE_PLACE);
     for round in 0..BATCH {
-        let before = map.put(rt, seat, key, number((round % 2) as u32));
-        if before.is_err() {
-            return Err(WorkFault::Full);
-        }
+        caller.put(rt, key, number((round % 2) as u32))?;
     }
     Ok(0)
 }

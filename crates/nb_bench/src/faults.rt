@@ -1,27 +1,63 @@
 //! Why the program ends early, and what is said of it.
 
-use nb_core::{OutOfMemory, RangeFault, ShapeFault};
+use nb_core::{OutOfMemory, ShapeFault};
 use nb_lines::WordsFault;
 use std::alloc::AllocFailed;
 use std::{fmt, io};
 
-/// Why a worker stopped.
+/// Why nothing was measured, where the words were well.
 #[derive(Clone, Copy)]
 pub(crate) enum WorkFault {
+    /// There is no such map. What words ask for one is seen before.
+    Shape(ShapeFault),
     Full,
     Clock,
-    Range,
     OutOfMemory,
+    Wrong(Wrong),
+}
+
+/// What was found to be wrong.
+#[derive(Clone, Copy)]
+pub(crate) enum Wrong {
+    Sum,
+    Size,
+}
+
+impl Wrong {
+    fn text(self) -> &'static str {
+        match self {
+            Wrong::Sum => "the sum isn't what was added",
+            Wrong::Size => "the size isn't the number of keys",
+        }
+    }
 }
 
 impl WorkFault {
-    fn text(self) -> &'static str {
+    /// The exit status.
+    fn status(self) -> u8 {
         match self {
-            WorkFault::Full => "the map is full: the plan has too few slots",
-            WorkFault::Clock => "the clock can't be read",
-            WorkFault::Range => "a number is too large",
-            WorkFault::OutOfMemory => "out of memory",
+            WorkFault::Wrong(_) => 2,
+            WorkFault::Shape(_) => 3,
+            WorkFault::Full | WorkFault::Clock | WorkFault::OutOfMemory => 4,
         }
+    }
+}
+
+impl fmt::Display for WorkFault {
+    fn fmt<W: fmt::Write>(&self, f: &mut fmt::Formatter<W>) -> fmt::Result {
+        match self {
+            WorkFault::Shape(fault) => fmt::Display::fmt(fault, f),
+            WorkFault::Full => f.write_str("the map is full: the plan has too few slots"),
+            WorkFault::Clock => f.write_str("the clock can't be read"),
+            WorkFault::OutOfMemory => f.write_str("out of memory"),
+            WorkFault::Wrong(wrong) => f.write_str(wrong.text()),
+        }
+    }
+}
+
+impl From<OutOfMemory> for WorkFault {
+    fn from(_error: OutOfMemory) -> WorkFault {
+        WorkFault::OutOfMemory
     }
 }
 
@@ -31,9 +67,9 @@ impl<T: Drop> From<AllocFailed<T>> for WorkFault {
     }
 }
 
-impl From<RangeFault> for WorkFault {
-    fn from(_error: RangeFault) -> WorkFault {
-        WorkFault::Range
+impl From<ShapeFault> for WorkFault {
+    fn from(fault: ShapeFault) -> WorkFault {
+        WorkFault::Shape(fault)
     }
 }
 
@@ -43,32 +79,11 @@ impl From<io::Error> for WorkFault {
     }
 }
 
-/// What a check found to be wrong.
-#[derive(Clone, Copy)]
-pub(crate) enum Wrong {
-    Told,
-    Sum,
-    Size,
-}
-
-impl Wrong {
-    fn text(self) -> &'static str {
-        match self {
-            Wrong::Told => "a number was told twice, or never",
-            Wrong::Sum => "the sum isn't what was added",
-            Wrong::Size => "the size isn't the number of keys",
-        }
-    }
-}
-
-/// Why nothing was measured.
+/// Why the program ends with another status than 0, or with its help or its version.
 #[derive(Drop)]
 pub(crate) enum BenchFault {
     Words(WordsFault),
-    /// There is no such map. What words ask for one is seen before.
-    Shape(ShapeFault),
     Work(WorkFault),
-    Wrong(Wrong),
     Write,
 }
 
@@ -77,10 +92,8 @@ impl BenchFault {
     pub(crate) fn status(&self) -> u8 {
         match self {
             BenchFault::Words(fault) => fault.status(),
+            BenchFault::Work(fault) => fault.status(),
             BenchFault::Write => 1,
-            BenchFault::Wrong(_) => 2,
-            BenchFault::Shape(_) => 3,
-            BenchFault::Work(_) => 4,
         }
     }
 }
@@ -89,9 +102,7 @@ impl fmt::Display for BenchFault {
     fn fmt<W: fmt::Write>(&self, f: &mut fmt::Formatter<W>) -> fmt::Result {
         match self {
             BenchFault::Words(fault) => fmt::Display::fmt(fault, f),
-            BenchFault::Shape(fault) => fmt::Display::fmt(fault, f),
-            BenchFault::Work(fault) => f.write_str(fault.text()),
-            BenchFault::Wrong(wrong) => f.write_str(wrong.text()),
+            BenchFault::Work(fault) => fmt::Display::fmt(fault, f),
             BenchFault::Write => f.write_str("write failed"),
         }
     }
@@ -100,24 +111,6 @@ impl fmt::Display for BenchFault {
 impl From<WordsFault> for BenchFault {
     fn from(fault: WordsFault) -> BenchFault {
         BenchFault::Words(fault)
-    }
-}
-
-impl From<ShapeFault> for BenchFault {
-    fn from(fault: ShapeFault) -> BenchFault {
-        BenchFault::Shape(fault)
-    }
-}
-
-impl From<OutOfMemory> for BenchFault {
-    fn from(_error: OutOfMemory) -> BenchFault {
-        BenchFault::Work(WorkFault::OutOfMemory)
-    }
-}
-
-impl<T: Drop> From<AllocFailed<T>> for BenchFault {
-    fn from(_refused: AllocFailed<T>) -> BenchFault {
-        BenchFault::Work(WorkFault::OutOfMemory)
     }
 }
 

@@ -1,11 +1,11 @@
 //! Many keys: maps with room for so many are made, filled and read.
 
-use crate::faults::BenchFault;
+use crate::faults::WorkFault;
 use crate::growth::{Pass, pass_once};
 use crate::keys::shuffled;
 use crate::options::Options;
+use crate::seats::MapSeat;
 use crate::timing::{Watch, nanoseconds_since, now};
-use nb_map::Map;
 use std::alloc::Global;
 use std::rt::Clock;
 use std::sync::Wait;
@@ -55,13 +55,13 @@ impl Times {
 }
 
 /// How long it takes to make a map.
-fn time_make<R: Clock>(rt: &R, alloc: Global, options: &Options) -> Result<u64, BenchFault> {
+fn time_make<R: Clock>(rt: &R, alloc: Global, options: &Options) -> Result<u64, WorkFault> {
     let shape = options.shape()?;
     let start = now(rt)?;
-    let made = Map::new(alloc, shape)?;
+    let seats = MapSeat::open(alloc, shape)?;
     let spent = nanoseconds_since(rt, start);
-    drop(made);
-    Ok(spent?)
+    drop(seats);
+    spent
 }
 
 /// Makes a pass on a new map, and answers its time.
@@ -71,9 +71,12 @@ fn time_pass<R: Threads + Sync + Wait + Clock + Eprint>(
     options: &Options,
     pass: Pass,
     places: &[u32],
-) -> Result<u64, BenchFault> {
-    let done = pass_once(rt, alloc, options, pass, places)?;
-    Ok(done.tally.nanoseconds)
+) -> Result<u64, WorkFault> {
+    Ok(
+        pass_once(rt, alloc, options, pass, places)?
+            .tally
+            .nanoseconds,
+    )
 }
 
 /// Measures each once.
@@ -82,7 +85,7 @@ fn time_once<R: Threads + Sync + Wait + Clock + Eprint>(
     alloc: Global,
     options: &Options,
     places: &[u32],
-) -> Result<Times, BenchFault> {
+) -> Result<Times, WorkFault> {
     Ok(Times {
         make: time_make(rt, alloc, options)?,
         fill: time_pass(rt, alloc, options, Pass::Puts, places)?,
@@ -97,7 +100,7 @@ pub(crate) fn measure<R: Threads + Sync + Wait + Clock + Eprint>(
     rt: &R,
     alloc: Global,
     options: &Options,
-) -> Result<Times, BenchFault> {
+) -> Result<Times, WorkFault> {
     let places = shuffled(alloc, options.keys)?;
     let mut times = Times::NONE;
     let mut watch = Watch::start(rt, options.time, options.progress)?;

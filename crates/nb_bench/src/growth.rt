@@ -1,16 +1,15 @@
 //! Calls of distinct keys by several threads, above all puts while the map grows.
 ghost use Rattle.std.specs.Prelude.{◌≡◌, ◌*◌, ◌/◌, ◌-◌, ◌<◌, length, min, slice_index};
-ghost use Rattle.nb_map.specs.Maps.{IsMine};
 
+use crate::callers::Caller;
 use crate::crew::{Done, Job, Worker, do_job, put_all};
-use crate::faults::{BenchFault, WorkFault, Wrong};
+use crate::faults::WorkFault;
 use crate::keys::{Spacing, number, shuffled};
 use crate::kinds::get_all;
 use crate::meeting::Meeting;
 use crate::options::Options;
 use crate::timing::{Watch, nanoseconds_since, now};
 use nb_core::OutOfMemory;
-use nb_map::{Map, Seat};
 use std::alloc::Global;
 use std::rt::Clock;
 use std::sync::Wait;
@@ -60,104 +59,82 @@ impl<'a> Growth<'a> {
     }
 
     /// Makes the pass at the keys with these places, and answers how long the longest put took where
-    /// that is asked for.
-    fn pass_at<R: Wait + Clock>(
+    /// that is asked for, or else 0.
+    fn pass_at<R: Wait + Clock, C: Caller + Drop>(
         &self,
         rt: &R,
-        map: &Map,
-        worker: &mut Worker,
+        worker: &mut Worker<C>,
         places: &[u32],
-    ) -> Result<Option<u64>, WorkFault>
-        requires own { IsMine map.now worker.old.seat }
-        ensures own { IsMine map.now worker.new.seat }
-    {
+    ) -> Result<u64, WorkFault> {
         let spacing = self.spacing;
         match self.pass {
-            Pass::Puts => put_all(rt, map, &mut worker.seat, spacing, places)?,
-            Pass::Gets => worker.tally.sum = get_all(map, &mut worker.seat, spacing, places),
-            Pass::LongestPut => {
-                return Ok(Some(longest_put(rt, map, &mut worker.seat, spacing, places)?));
-            }
-            Pass::TimedPuts => time_puts(rt, map, worker, spacing, places)?,
+            Pass::LongestPut => return longest_put(rt, &mut worker.caller, spacing, places),
+            Pass::Puts => put_all(rt, &mut worker.caller, spacing, places)?,
+            Pass::Gets => worker.tally.sum = get_all(rt, &mut worker.caller, spacing, places),
+            Pass::TimedPuts => time_puts(rt, worker, spacing, places)?,
         }
-        Ok(None)
+        Ok(0)
     }
 }
 
 impl Job for Growth<'_> {
-    fn work<R: Wait + Clock + Eprint>(
+    fn work<R: Wait + Clock + Eprint, C: Caller + Drop>(
         &self,
         rt: &R,
-        map: &Map,
-        worker: &mut Worker,
+        worker: &mut Worker<C>,
         number: usize,
-    ) -> Result<(), WorkFault>
-        requires own { IsMine map.now worker.old.seat }
-        ensures own { IsMine map.now worker.new.seat }
-    {
+    ) -> Result<(), WorkFault> {
         let part = self.part(number);
         self.meeting.meet();
         let start = now(rt)?;
-        let longest = self.pass_at(rt, map, worker, part)?;
-        worker.tally.calls = part.len() as u64;
+        let longest = self.pass_at(rt, worker, part)?;
         let spent = nanoseconds_since(rt, start)?;
-        worker.tally.nanoseconds = longest.unwrap_or(spent);
+        worker.tally.calls = part.len() as u64;
+        worker.tally.nanoseconds = match self.pass {
+            Pass::LongestPut => longest,
+            _ => spent,
+        };
         Ok(())
     }
 }
 
 /// Puts numbers at the keys with these places, and answers how long the longest put took.
-fn longest_put<R: Wait + Clock>(
+fn longest_put<R: Wait + Clock, C: Caller>(
     rt: &R,
-    map: &Map,
-    seat: &mut Seat,
+    caller: &mut C,
     spacing: Spacing,
     places: &[u32],
-) -> Result<u64, WorkFault>
-    requires own { IsMine map.now seat.old }
-    ensures own { IsMine map.now seat.new }
-{
+) -> Result<u64, WorkFault> {
     let mut longest = 0;
     for place in places {
-        longest = timed_put(rt, map, seat, spacing, *place)?.max(longest);
+        longest = timed_put(rt, caller, spacing, *place)?.max(longest);
     }
     Ok(longest)
 }
 
 /// Puts numbers at the keys with these places, and keeps how long each put took.
-fn time_puts<R: Wait + Clock>(
+fn time_puts<R: Wait + Clock, C: Caller + Drop>(
     rt: &R,
-    map: &Map,
-    worker: &mut Worker,
+    worker: &mut Worker<C>,
     spacing: Spacing,
     places: &[u32],
-) -> Result<(), WorkFault>
-    requires own { IsMine map.now worker.old.seat }
-    ensures own { IsMine map.now worker.new.seat }
-{
+) -> Result<(), WorkFault> {
     for place in places {
-        let spent = timed_put(rt, map, &mut worker.seat, spacing, *place)?;
-        worker.told.push(spent)?;
+        let spent = timed_put(rt, &mut worker.caller, spacing, *place)?;
+        worker.times.push(spent)?;
     }
     Ok(())
 }
 
 /// Puts a number at the key with this place, and answers how long that took.
-fn timed_put<R: Wait + Clock>(
+fn timed_put<R: Wait + Clock, C: Caller>(
     rt: &R,
-    map: &Map,
-    seat: &mut Seat,
+    caller: &mut C,
     spacing: Spacing,
     place: u32,
-) -> Result<u64, WorkFault>
-    requires own { IsMine map.now seat.old }
-    ensures own { IsMine map.now seat.new }
-{
+) -> Result<u64, WorkFault> {
     let start = now(rt)?;
-    let before = map.put(rt, seat, spacing.key(place), number(place));
-    if before.is_err() {
-        return Err(WorkFault::Full);
-    }
+    caller.put(rt, spacing.key(place), number(place))?;
     nanoseconds_since(rt, start)
 }
 
@@ -168,17 +145,13 @@ pub(crate) fn pass_once<R: Threads + Sync + Wait + Clock + Eprint>(
     options: &Options,
     pass: Pass,
     places: &[u32],
-) -> Result<Done, BenchFault> {
+) -> Result<Done, WorkFault> {
     let job = Growth::new(pass, options, places);
     let before = match pass {
         Pass::Gets => places,
         _ => &[],
     };
-    let done = do_job(rt, alloc, options.shape()?, options.spacing, before, &job)?;
-    if done.ended.size() != places.len() as u64 {
-        return Err(BenchFault::Wrong(Wrong::Size));
-    }
-    Ok(done)
+    do_job(rt, alloc, options, before, &job, places.len())
 }
 
 /// What a round measures, in nanoseconds: how long all puts take; within which times half of the puts
@@ -212,7 +185,7 @@ fn within(times: &[u64], thousandths: usize) -> u64
 }
 
 /// The middle one of these times.
-pub(crate) fn middle_of(times: Vec<u64>) -> Result<u64, BenchFault> {
+pub(crate) fn middle_of(times: Vec<u64>) -> Result<u64, WorkFault> {
     let mut times = times;
     times.sort()?;
     Ok(within(times.as_slice(), 500))
@@ -224,13 +197,15 @@ fn time_round<R: Threads + Sync + Wait + Clock + Eprint>(
     alloc: Global,
     options: &Options,
     places: &[u32],
-) -> Result<Times, BenchFault> {
-    let whole = pass_once(rt, alloc, options, Pass::Puts, places)?;
+) -> Result<Times, WorkFault> {
+    let whole = pass_once(rt, alloc, options, Pass::Puts, places)?
+        .tally
+        .nanoseconds;
     let mut timed = pass_once(rt, alloc, options, Pass::TimedPuts, places)?;
-    timed.told.sort()?;
-    let times = timed.told.as_slice();
+    timed.times.sort()?;
+    let times = timed.times.as_slice();
     Ok([
-        whole.tally.nanoseconds,
+        whole,
         within(times, 500),
         within(times, 990),
         within(times, 999),
@@ -239,7 +214,7 @@ fn time_round<R: Threads + Sync + Wait + Clock + Eprint>(
 }
 
 /// The middle one of each of the rounds' times.
-fn middle_of_each(alloc: Global, rounds: &[Times]) -> Result<Times, BenchFault> {
+fn middle_of_each(alloc: Global, rounds: &[Times]) -> Result<Times, WorkFault> {
     let mut middle = [0; 5];
     for (place, time) in middle.iter_mut().enumerate() {
         *time = middle_of(times_at(alloc, rounds, place)?)?;
@@ -259,21 +234,33 @@ fn times_at(alloc: Global, rounds: &[Times], place: usize) -> Result<Vec<u64>, O
 }
 
 /// Makes rounds until the time is up or all threads together have made so many puts, without those
-/// that are timed one by one, and answers the middle one of each of their times.
-pub(crate) fn measure<R: Threads + Sync + Wait + Clock + Eprint>(
+/// that are timed one by one, and keeps their times.
+fn make_rounds<R: Threads + Sync + Wait + Clock + Eprint>(
     rt: &R,
     alloc: Global,
     options: &Options,
-) -> Result<Times, BenchFault> {
-    let places = shuffled(alloc, options.keys)?;
-    let mut times = Vec::new(alloc);
+    places: &[u32],
+    times: &mut Vec<Times>,
+) -> Result<(), WorkFault> {
     let mut watch = Watch::start(rt, options.time, options.progress)?;
     let rounds = options.calls.div_ceil(u64::from(options.keys.max(1)));
     for _round in 0..rounds.max(1) {
-        times.push(time_round(rt, alloc, options, places.as_slice())?)?;
+        times.push(time_round(rt, alloc, options, places)?)?;
         if watch.is_over(rt)? {
             break;
         }
     }
+    Ok(())
+}
+
+/// Makes rounds, and answers the middle one of each of their times.
+pub(crate) fn measure<R: Threads + Sync + Wait + Clock + Eprint>(
+    rt: &R,
+    alloc: Global,
+    options: &Options,
+) -> Result<Times, WorkFault> {
+    let places = shuffled(alloc, options.keys)?;
+    let mut times = Vec::new(alloc);
+    make_rounds(rt, alloc, options, places.as_slice(), &mut times)?;
     middle_of_each(alloc, times.as_slice())
 }

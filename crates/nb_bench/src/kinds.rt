@@ -1,14 +1,14 @@
 //! Calls of one kind, one after another, each at its key's home slot: what a call of each kind
 //! takes.
-ghost use Rattle.nb_map.specs.Maps.{AreMine, IsMine};
 
-use crate::crew::{put, put_all};
-use crate::faults::{BenchFault, WorkFault, Wrong};
+use crate::callers::Caller;
+use crate::crew::put_all;
+use crate::faults::{WorkFault, Wrong};
 use crate::keys::{KEY_COUNT, Spacing, number, shuffled};
 use crate::options::Options;
+use crate::seats::MapSeat;
 use crate::timing::{Watch, nanoseconds_since, now};
 use nb_core::Num;
-use nb_map::{Map, Seat};
 use std::alloc::Global;
 use std::rt::Clock;
 use std::sync::Wait;
@@ -62,29 +62,27 @@ impl Kind {
 #[inline(never)]
 fn put_other<R: Wait>(
     rt: &R,
-    map: &Map,
-    seat: &mut Seat,
+    seat: &mut MapSeat,
     spacing: Spacing,
     places: &[u32],
-) -> Result<(), WorkFault>
-    requires own { IsMine map.now seat.old }
-    ensures own { IsMine map.now seat.new }
-{
+) -> Result<(), WorkFault> {
     for place in places {
-        put(rt, map, seat, spacing.key(*place), number(*place ^ 1))?;
+        seat.put(rt, spacing.key(*place), number(*place ^ 1))?;
     }
     Ok(())
 }
 
 /// Gets each of the keys, and answers the sum of what they have.
 #[inline(never)]
-pub(crate) fn get_all(map: &Map, seat: &mut Seat, spacing: Spacing, places: &[u32]) -> u64
-    requires own { IsMine map.now seat.old }
-    ensures own { IsMine map.now seat.new }
-{
+pub(crate) fn get_all<R: Wait, C: Caller>(
+    rt: &R,
+    caller: &mut C,
+    spacing: Spacing,
+    places: &[u32],
+) -> u64 {
     let mut sum = 0u64;
     for place in places {
-        let found = map.get(seat, spacing.key(*place));
+        let found = caller.get(rt, spacing.key(*place));
         sum = sum.wrapping_add(found.map_or(0, Num::get));
     }
     sum
@@ -94,30 +92,21 @@ pub(crate) fn get_all(map: &Map, seat: &mut Seat, spacing: Spacing, places: &[u3
 #[inline(never)]
 fn add_all<R: Wait>(
     rt: &R,
-    map: &Map,
-    seat: &mut Seat,
+    seat: &mut MapSeat,
     spacing: Spacing,
     places: &[u32],
-) -> Result<(), WorkFault>
-    requires own { IsMine map.now seat.old }
-    ensures own { IsMine map.now seat.new }
-{
+) -> Result<(), WorkFault> {
     for place in places {
-        if map.add(rt, seat, spacing.key(*place), number(1)).is_err() {
-            return Err(WorkFault::Full);
-        }
+        seat.add(rt, spacing.key(*place), number(1))?;
     }
     Ok(())
 }
 
 /// Takes out each of the keys.
 #[inline(never)]
-fn remove_all<R: Wait>(rt: &R, map: &Map, seat: &mut Seat, spacing: Spacing, places: &[u32])
-    requires own { IsMine map.now seat.old }
-    ensures own { IsMine map.now seat.new }
-{
+fn remove_all<R: Wait>(rt: &R, seat: &mut MapSeat, spacing: Spacing, places: &[u32]) {
     for place in places {
-        map.remove(rt, seat, spacing.key(*place));
+        seat.remove(rt, spacing.key(*place));
     }
 }
 
@@ -125,81 +114,86 @@ fn remove_all<R: Wait>(rt: &R, map: &Map, seat: &mut Seat, spacing: Spacing, pla
 /// sum of what they read.
 fn time_all<R: Wait + Clock>(
     rt: &R,
-    map: &Map,
-    seat: &mut Seat,
+    seat: &mut MapSeat,
     spacing: Spacing,
     places: &[u32],
     kind: Kind,
-) -> Result<(u64, u64), WorkFault>
-    requires own { IsMine map.now seat.old }
-    ensures own { IsMine map.now seat.new }
-{
+) -> Result<(u64, u64), WorkFault> {
     let start = now(rt)?;
     let mut sum = 0u64;
+    let mut called = Ok(());
     match kind {
-        Kind::PutNew => put_all(rt, map, seat, spacing, places)?,
-        Kind::Put => put_other(rt, map, seat, spacing, places)?,
-        Kind::Get | Kind::GetNone => sum = get_all(map, seat, spacing, places),
-        Kind::Add => add_all(rt, map, seat, spacing, places)?,
-        Kind::Remove => remove_all(rt, map, seat, spacing, places),
+        Kind::PutNew => called = put_all(rt, seat, spacing, places),
+        Kind::Put => called = put_other(rt, seat, spacing, places),
+        Kind::Get | Kind::GetNone => sum = get_all(rt, seat, spacing, places),
+        Kind::Add => called = add_all(rt, seat, spacing, places),
+        Kind::Remove => remove_all(rt, seat, spacing, places),
     }
+    called?;
     Ok((nanoseconds_since(rt, start)?, sum))
 }
 
-/// Makes calls of all kinds. Where a kind took less time than before, that is its time.
+/// Makes calls of all kinds, and answers how long those of each kind took.
 fn time_kinds<R: Wait + Clock>(
     rt: &R,
-    map: &Map,
-    seat: &mut Seat,
+    seat: &mut MapSeat,
     spacing: Spacing,
     places: &[u32],
-    times: &mut [u64; 6],
-) -> Result<(), BenchFault>
-    requires own { IsMine map.now seat.old }
-    ensures own { IsMine map.now seat.new }
-{
+) -> Result<[u64; 6], WorkFault> {
+    let mut times = [0; 6];
     for (kind, time) in Kind::ALL.iter().zip(times.iter_mut()) {
-        let (taken, sum) = time_all(rt, map, seat, spacing, places, *kind)?;
+        let (taken, sum) = time_all(rt, seat, spacing, places, *kind)?;
         let wanted = match kind {
             Kind::Get => PLACES_SUM,
             _ => 0,
         };
         if sum != wanted {
-            return Err(BenchFault::Wrong(Wrong::Sum));
+            return Err(WorkFault::Wrong(Wrong::Sum));
         }
-        *time = taken.min(*time);
+        *time = taken;
     }
-    Ok(())
+    Ok(times)
 }
 
-/// Makes calls of all kinds on a new map, by one of its seats.
+/// Makes calls of all kinds on a new map, by the first of its seats.
 fn time_once<R: Wait + Clock>(
     rt: &R,
     alloc: Global,
     options: &Options,
     places: &[u32],
-    times: &mut [u64; 6],
-) -> Result<(), BenchFault> {
-    let (map, seats) = Map::new(alloc, options.shape()?)?;
-    time_by_one(rt, &map, seats, options.spacing, places, times)
+) -> Result<[u64; 6], WorkFault> {
+    let mut seats = MapSeat::open(alloc, options.shape()?)?;
+    match seats.first_mut() {
+        Some(seat) => time_kinds(rt, seat, options.spacing, places),
+        None => Ok([u64::MAX; 6]),
+    }
 }
 
-/// Makes calls of all kinds by the last of the seats, if there is one.
-fn time_by_one<R: Wait + Clock>(
+/// Keeps the shorter of each two times.
+fn keep_shorter(times: &mut [u64; 6], taken: &[u64; 6]) {
+    for (time, taken) in times.iter_mut().zip(taken.iter()) {
+        *time = (*taken).min(*time);
+    }
+}
+
+/// Makes calls of all kinds on new maps, again and again until the time is up. Where a kind took
+/// less time than before, that is its time.
+fn time_rounds<R: Wait + Clock + Eprint>(
     rt: &R,
-    map: &Map,
-    seats: Vec<Seat>,
-    spacing: Spacing,
+    alloc: Global,
+    options: &Options,
     places: &[u32],
     times: &mut [u64; 6],
-) -> Result<(), BenchFault>
-    requires own { AreMine map.now seats.items }
-{
-    let mut seats = seats;
-    match seats.pop() {
-        Some(mut seat) => time_kinds(rt, map, &mut seat, spacing, places, times),
-        None => Ok(()),
+) -> Result<(), WorkFault> {
+    let mut watch = Watch::start(rt, options.time, options.progress)?;
+    for _round in 0..u64::MAX {
+        let taken = time_once(rt, alloc, options, places)?;
+        keep_shorter(times, &taken);
+        if watch.is_over(rt)? {
+            break;
+        }
     }
+    Ok(())
 }
 
 /// Makes calls of all kinds at all keys in new maps, again and again until the time is up. It
@@ -208,15 +202,9 @@ pub(crate) fn measure<R: Wait + Clock + Eprint>(
     rt: &R,
     alloc: Global,
     options: &Options,
-) -> Result<[u64; 6], BenchFault> {
+) -> Result<[u64; 6], WorkFault> {
     let places = shuffled(alloc, KEY_COUNT)?;
     let mut times = [u64::MAX; 6];
-    let mut watch = Watch::start(rt, options.time, options.progress)?;
-    for _round in 0..u64::MAX {
-        time_once(rt, alloc, options, places.as_slice(), &mut times)?;
-        if watch.is_over(rt)? {
-            break;
-        }
-    }
+    time_rounds(rt, alloc, options, places.as_slice(), &mut times)?;
     Ok(times)
 }

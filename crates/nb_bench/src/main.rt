@@ -1,10 +1,8 @@
 //! `nb_bench` measures the map: how many calls it answers in a time, under workloads that its
-//! peers are measured with too. And it checks, under load, that no number is lost and none is told
-//! twice.
+//! peers are measured with too.
 #![tactic(auto)]
 
 pub(crate) mod callers;
-pub(crate) mod checks;
 pub(crate) mod churn;
 pub(crate) mod crew;
 pub(crate) mod draws;
@@ -18,6 +16,7 @@ pub(crate) mod memory;
 pub(crate) mod options;
 pub(crate) mod random;
 pub(crate) mod runs;
+pub(crate) mod seats;
 pub(crate) mod serve;
 pub(crate) mod timing;
 pub(crate) mod workloads;

@@ -1,11 +1,11 @@
 //! What memory a map takes that has all keys.
 
-use crate::crew::filled;
-use crate::faults::BenchFault;
-use crate::keys::shuffled;
+use crate::crew::put_all;
+use crate::faults::WorkFault;
+use crate::keys::{Spacing, shuffled};
 use crate::options::Options;
+use crate::seats::MapSeat;
 use nb_core::read_number;
-use nb_map::Map;
 use std::alloc::Global;
 use std::fs;
 use std::rt::Files;
@@ -31,6 +31,37 @@ fn resident<R: Files + AllocGlobal>(rt: &R) -> Option<u64> {
     }
 }
 
+/// Puts numbers at the keys with these places by the first of the seats, and answers the bytes of
+/// this process that are in memory then, if Linux tells.
+fn resident_filled<R: Wait + Files + AllocGlobal>(
+    rt: &R,
+    seats: &mut [MapSeat],
+    spacing: Spacing,
+    places: &[u32],
+) -> Result<Option<u64>, WorkFault> {
+    if let Some(seat) = seats.first_mut() {
+        put_all(rt, seat, spacing, places)?;
+    }
+    Ok(resident(rt))
+}
+
+/// By how many bytes this process grows in memory while a new map is made and gets numbers at the
+/// keys with these places, if Linux tells.
+fn growth_of<R: Wait + Files + AllocGlobal>(
+    rt: &R,
+    alloc: Global,
+    options: &Options,
+    places: &[u32],
+) -> Result<Option<u64>, WorkFault> {
+    let before = resident(rt);
+    let mut seats = MapSeat::open(alloc, options.shape()?)?;
+    let after = resident_filled(rt, seats.as_mut_slice(), options.spacing, places)?;
+    match (before, after) {
+        (Some(before), Some(after)) => Ok(Some(after.saturating_sub(before))),
+        _ => Ok(None),
+    }
+}
+
 /// Makes a map that has all keys, and answers how many bytes more of this process are in memory
 /// then, if Linux tells. It measures something only before other maps were made: their memory may
 /// be taken again.
@@ -38,13 +69,7 @@ pub(crate) fn measure<R: Wait + Files + AllocGlobal>(
     rt: &R,
     alloc: Global,
     options: &Options,
-) -> Result<Option<u64>, BenchFault> {
+) -> Result<Option<u64>, WorkFault> {
     let places = shuffled(alloc, options.keys)?;
-    let before = resident(rt);
-    let (map, seats) = Map::new(alloc, options.shape()?)?;
-    let _seats = filled(rt, &map, seats, options.spacing, places.as_slice())?;
-    match (before, resident(rt)) {
-        (Some(before), Some(after)) => Ok(Some(after.saturating_sub(before))),
-        _ => Ok(None),
-    }
+    growth_of(rt, alloc, options, places.as_slice())
 }

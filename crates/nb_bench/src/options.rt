@@ -34,10 +34,6 @@ pub(crate) struct Options {
     /// in `D`, after how many puts of all threads no more rounds begin; in `G`, how many calls each
     /// thread makes in a round, if not `u64::MAX`.
     pub(crate) calls: u64,
-    /// How many puts each thread makes in the check.
-    pub(crate) puts: u32,
-    /// How many adds all threads make together in the check.
-    pub(crate) adds: u64,
     /// How progress is told.
     pub(crate) progress: ProgressMeter,
 }
@@ -116,18 +112,6 @@ const CALLS: NumberWord = NumberWord {
     high: u64::MAX,
 };
 
-const PUTS: NumberWord = NumberWord {
-    name: "--puts",
-    low: 0,
-    high: 1_000_000,
-};
-
-const ADDS: NumberWord = NumberWord {
-    name: "--adds",
-    low: 0,
-    high: 4_294_967_295,
-};
-
 const LIVE: NumberWord = NumberWord {
     name: "--live",
     low: 1,
@@ -136,7 +120,7 @@ const LIVE: NumberWord = NumberWord {
 
 const WORKLOADS: &str = "A: gets; B: 90% gets; C: 50% gets; D: puts that make the map grow; \
     E: puts at one key; F: many keys are put, and read; G: keys come and go; \
-    kinds: one kind of call after another; check: a test under load";
+    kinds: one kind of call after another";
 
 /// The command line.
 pub(crate) const LINE: CommandLine = CommandLine {
@@ -200,16 +184,6 @@ pub(crate) const LINE: CommandLine = CommandLine {
                 in G: how many calls each thread makes in a round",
         },
         Argument {
-            form: Form::Number(PUTS, "N"),
-            default: Some("150000"),
-            help: "In check: how many puts each thread makes; 0 to 1000000",
-        },
-        Argument {
-            form: Form::Number(ADDS, "N"),
-            default: Some("10000000"),
-            help: "In check: how many adds all threads make together; 0 to 4294967295",
-        },
-        Argument {
             form: Form::Number(LIVE, "N"),
             default: None,
             help: "In A to G: how many keys there are; 1 to 178956970; by default 65536, in D 32768, \
@@ -262,17 +236,12 @@ fn plan_of(
     let mut exponents = Vec::new(alloc);
     match workload.plan() {
         Plan::OneTable => exponents.push(exponent_for(keys))?,
-        Plan::Doubling => {
-            for exponent in 2..=17 {
-                exponents.push(exponent)?;
-            }
-        }
         Plan::ByKeys => {}
     }
     Ok(exponents)
 }
 
-const NO_WORKLOAD: &str = "none of A, B, C, D, E, F, G, kinds and check";
+const NO_WORKLOAD: &str = "none of A, B, C, D, E, F, G and kinds";
 
 /// The workload that is asked for.
 fn read_workload(alloc: Global, name: &str) -> Result<Workload, WordsFault> {
@@ -343,14 +312,6 @@ fn tables_of(
     })
 }
 
-/// How many calls are asked for, and how many puts and adds of the check.
-fn counts_of(alloc: Global, given: &Given) -> Result<(u64, u32, u64), WordsFault> {
-    let calls = CALLS.find(alloc, given)?.unwrap_or(u64::MAX);
-    let puts = PUTS.find(alloc, given)?.unwrap_or(0);
-    let adds = ADDS.find(alloc, given)?.unwrap_or(0);
-    Ok((calls, puts as u32, adds))
-}
-
 /// The options that the command line gives.
 fn options_of(alloc: Global, given: &Given) -> Result<Options, WordsFault> {
     let workload = read_workload(alloc, given.text("WORKLOAD").unwrap_or(""))?;
@@ -358,7 +319,8 @@ fn options_of(alloc: Global, given: &Given) -> Result<Options, WordsFault> {
     let keys = workload.keys(live_of(alloc, given)?);
     let (spacing, law) = read_keys(alloc, given.text("--keys").unwrap_or("dense"))?;
     let time = read_time(alloc, given.text("SECONDS").unwrap_or("1"))?;
-    let (calls, puts, adds) = counts_of(alloc, given)?;
+    let calls = CALLS.find(alloc, given)?.unwrap_or(u64::MAX);
+    let by = read_by(alloc, given.text("--by").unwrap_or("seat"))?;
     Ok(Options {
         workload,
         threads: threads as usize,
@@ -367,10 +329,8 @@ fn options_of(alloc: Global, given: &Given) -> Result<Options, WordsFault> {
         keys,
         spacing,
         law,
-        by: read_by(alloc, given.text("--by").unwrap_or("seat"))?,
+        by,
         calls,
-        puts,
-        adds,
         progress: ProgressMeter::NONE,
     })
 }

@@ -1,13 +1,12 @@
 //! The program: its words, what it prints, and its exit status.
 
-use crate::checks::{check_adds, check_puts};
+use crate::crew::Tally;
 use crate::faults::BenchFault;
 use crate::keys::KEY_COUNT;
 use crate::kinds::Kind;
 use crate::options::{LINE, Options, read_options};
-use crate::runs::{Measured, measure};
 use crate::workloads::Workload;
-use crate::{churn, fill, growth, kinds, memory};
+use crate::{churn, fill, growth, kinds, memory, runs};
 use nb_lines::{ProgressMeter, WordsFault, answer, complain};
 use std::alloc::Global;
 use std::io;
@@ -21,19 +20,6 @@ fn written(wrote: io::Result<()>) -> Result<(), BenchFault> {
         Ok(()) => Ok(()),
         Err(_) => Err(BenchFault::Write),
     }
-}
-
-/// Runs the checks, and prints their line.
-fn run_checks<R: Threads + Sync + Wait + Clock + Print + Eprint>(
-    rt: &R,
-    alloc: Global,
-    options: &Options,
-) -> Result<(), BenchFault> {
-    let threads = options.threads;
-    let puts = check_puts(rt, alloc, options)?;
-    options.progress.tell_part(rt, 1, 2, "parts");
-    let adds = check_adds(rt, alloc, options)?;
-    written(println!(rt; "nb check {threads} {puts} puts {adds} adds ok"))
 }
 
 /// Times calls of each kind, and prints a line for each.
@@ -86,20 +72,7 @@ where
     }
 }
 
-/// Has keys come and go, and prints a line, with `full` at its end if a map was full.
-fn run_churn<R: Threads + Sync + Wait + Clock + Print + Eprint>(
-    rt: &R,
-    alloc: Global,
-    options: &Options,
-) -> Result<(), BenchFault> {
-    let threads = options.threads;
-    let churned = churn::measure(rt, alloc, options)?;
-    let (calls, nanoseconds) = (churned.calls, churned.nanoseconds);
-    let full = if churned.is_full { " full" } else { "" };
-    written(println!(rt; "nb G {threads} {calls} {nanoseconds}{full}"))
-}
-
-/// Runs a workload for its time, and prints its line.
+/// Runs a workload that prints one line, with `full` at its end if a map was full.
 fn run_timed<R: Threads + Sync + Wait + Clock + Print + Eprint>(
     rt: &R,
     alloc: Global,
@@ -107,8 +80,18 @@ fn run_timed<R: Threads + Sync + Wait + Clock + Print + Eprint>(
 ) -> Result<(), BenchFault> {
     let name = options.workload.name();
     let threads = options.threads;
-    let Measured { calls, nanoseconds } = measure(rt, alloc, options)?;
-    written(println!(rt; "nb {name} {threads} {calls} {nanoseconds}"))
+    let tally = match options.workload {
+        Workload::Churn => churn::measure(rt, alloc, options),
+        _ => runs::measure(rt, alloc, options),
+    };
+    let Tally {
+        calls,
+        nanoseconds,
+        is_full,
+        ..
+    } = tally?;
+    let full = if is_full { " full" } else { "" };
+    written(println!(rt; "nb {name} {threads} {calls} {nanoseconds}{full}"))
 }
 
 /// Runs what the options ask for.
@@ -117,11 +100,9 @@ where
     R: Threads + Sync + Wait + Clock + Print + Eprint + Files + AllocGlobal,
 {
     match options.workload {
-        Workload::Check => run_checks(rt, alloc, options),
         Workload::Kinds => run_kinds(rt, alloc, options),
         Workload::Growth => run_growth(rt, alloc, options),
         Workload::Fill => run_fill(rt, alloc, options),
-        Workload::Churn => run_churn(rt, alloc, options),
         _ => run_timed(rt, alloc, options),
     }
 }

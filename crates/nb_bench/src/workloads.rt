@@ -21,13 +21,11 @@ pub(crate) enum Workload {
     Churn,
     /// `kinds`: calls of one kind after another, by one thread.
     Kinds,
-    /// `check`: what is told under load is compared with what there is in the end.
-    Check,
 }
 
 impl Workload {
     /// All of them.
-    const ALL: [Workload; 9] = [
+    const ALL: [Workload; 8] = [
         Workload::Gets,
         Workload::Reads,
         Workload::Changes,
@@ -36,7 +34,6 @@ impl Workload {
         Workload::Fill,
         Workload::Churn,
         Workload::Kinds,
-        Workload::Check,
     ];
 
     /// The workload of a name.
@@ -55,14 +52,13 @@ impl Workload {
             Workload::Fill => "F",
             Workload::Churn => "G",
             Workload::Kinds => "kinds",
-            Workload::Check => "check",
         }
     }
 
     /// How many keys there are, where the options ask for so many, if they do.
     pub(crate) fn keys(self, live: Option<u32>) -> u32 {
         match self {
-            Workload::Kinds | Workload::Check => KEY_COUNT,
+            Workload::Kinds => KEY_COUNT,
             Workload::Growth => live.unwrap_or(32_768),
             Workload::Fill => live.unwrap_or(1_000_000),
             _ => live.unwrap_or(KEY_COUNT),
@@ -73,7 +69,6 @@ impl Workload {
     pub(crate) fn plan(self) -> Plan {
         match self {
             Workload::Growth | Workload::Fill | Workload::Churn => Plan::ByKeys,
-            Workload::Check => Plan::Doubling,
             _ => Plan::OneTable,
         }
     }
@@ -84,8 +79,6 @@ impl Workload {
 pub(crate) enum Plan {
     /// One table, of twice as many slots as there are keys.
     OneTable,
-    /// Sixteen tables, each twice the last, from the smallest one up.
-    Doubling,
     /// The tables of a shape for so many keys.
     ByKeys,
 }

@@ -1,5 +1,6 @@
 /* Threads add to the keys of a growing map, read them, and walk over them; the sums are right. Eight threads make calls of all
-   kinds on few keys, and what is left is what they were told. And threads walk beside others that write, while the map grows.
+   kinds on few keys, and what is left is what they were told. Eight threads put numbers, no two the same, and each is told once.
+   And threads walk beside others that write, while the map grows.
    Four threads list a map by parts, at rest and while it grows.
        threads [ROUNDS]      how often each of the first four threads adds; the other tests are made again the more often */
 #include "crew.h"
@@ -149,6 +150,64 @@ static void eight_threads(void)
         EXPECT(samvolip_ended_get(&ended, entries[i].key, &number) == SAMVOLIP_PRESENT);
         EXPECT(number == entries[i].number && (i == 0 || entries[i - 1].key < entries[i].key));
     }
+    samvolip_ended_free(&ended);
+}
+
+/* ---- numbers that are told once */
+
+enum { TELLING_KEYS = 4, OWN_PUTS = 10000, PUTS_EACH_GROWTH = 300 };
+
+static unsigned char tellings[MOST_THREADS * OWN_PUTS]; /* how often each number was told */
+
+/* A call was told this number, if it found one. */
+static void tell(int code, uint64_t number)
+{
+    EXPECT(code == SAMVOLIP_PRESENT || code == SAMVOLIP_ABSENT);
+    if (code == SAMVOLIP_PRESENT) {
+        EXPECT(number < sizeof tellings);
+        __atomic_fetch_add(&tellings[number], 1, __ATOMIC_SEQ_CST);
+    }
+}
+
+/* Each thread puts numbers of its own at the keys 0 to 3, and takes keys out. Between the calls it puts keys that no other thread
+   puts, so that the map grows. */
+static void *put_own(void *given)
+{
+    struct worker *worker = given;
+    uint64_t state = worker->number;
+    for (unsigned i = 0; i < OWN_PUTS; i++) {
+        state = state * UINT64_C(6364136223846793005) + UINT64_C(1442695040888963407);
+        const uint64_t choice = state >> 33, own = worker->number * OWN_PUTS + i;
+        uint64_t before = 0;
+        int code = samvolip_put(&worker->seat, choice % TELLING_KEYS, own, &before);
+        tell(code, before);
+        if (choice / 8 % 16 == 0) {
+            code = samvolip_remove(&worker->seat, choice / 128 % TELLING_KEYS, &before);
+            tell(code, before);
+        }
+        if (i % PUTS_EACH_GROWTH == 0)
+            EXPECT(samvolip_put(&worker->seat, TELLING_KEYS + own, 0, NULL) == SAMVOLIP_ABSENT);
+    }
+    return NULL;
+}
+
+/* Each number is told once: to the call that took its place or took it out, or in the end. */
+static void told_once(void)
+{
+    const samvolip_shape shape = {{2, 4, 6, 8, 10}, 5, MOST_THREADS, 3, UINT32_MAX, 8};
+    struct worker workers[MOST_THREADS] = {{SAMVOLIP_SEAT_INIT, 0, 0, 0, {0}}};
+    samvolip_ended ended = SAMVOLIP_ENDED_INIT;
+    EXPECT(samvolip_open(&shape, &workers[0].seat) == SAMVOLIP_OK);
+    all_work(workers, MOST_THREADS, put_own);
+    EXPECT(samvolip_close(&workers[0].seat, &ended) == SAMVOLIP_OK);
+    for (uint64_t key = 0; key < TELLING_KEYS; key++) {
+        uint64_t number = 0;
+        const int code = samvolip_ended_get(&ended, key, &number);
+        tell(code, number);
+    }
+    for (size_t number = 0; number < sizeof tellings; number++)
+        EXPECT(tellings[number] == 1);
+    memset(tellings, 0, sizeof tellings);
     samvolip_ended_free(&ended);
 }
 
@@ -312,6 +371,8 @@ int main(int count, char **words)
     threads_add();
     for (unsigned i = 0; i < rounds; i += 5000)
         eight_threads();
+    for (unsigned i = 0; i < rounds; i += 20000)
+        told_once();
     for (unsigned i = 0; i < rounds; i += 10000)
         walk_beside_writers();
     for (unsigned i = 0; i < rounds; i += 50000)

@@ -1,5 +1,0 @@
-use Rattle.nb_map.specs.Maps.{IsMine}
-use Rattle.nb_bench.proofs.crew.put_all.Given as goal
-
-abbrev pub invariant-loop-place : goal.invariant-loop-place
-invariant-loop-place g l = IsMine l.map l.seat

@@ -1,5 +1,0 @@
-use Rattle.nb_map.specs.Maps.{IsMine}
-use Rattle.nb_bench.proofs.draws.put_batch.Given as goal
-
-abbrev pub invariant-loop-round : goal.invariant-loop-round
-invariant-loop-round g l = IsMine l.map l.seat

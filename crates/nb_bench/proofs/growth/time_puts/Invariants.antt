@@ -1,5 +1,0 @@
-use Rattle.nb_map.specs.Maps.{IsMine}
-use Rattle.nb_bench.proofs.growth.time_puts.Given as goal
-
-abbrev pub invariant-loop-place : goal.invariant-loop-place
-invariant-loop-place g l = IsMine l.map l.worker.seat
