@@ -1,4 +1,4 @@
--- When a map can be full, for one worker at each of its commands.
+-- When a map can be full, for one worker at each of its commands; and that all commands are its own.
 use Rattle.std.proofs.Common.{◌≡◌, ◌∙◌, ◌<◌, ℕ, zero, suc, List, [], ◌∷◌, ◌++◌, Some, map, take, ap, sym, subst, refl, append_assoc, append-nil, arith}
 use Rattle.std.specs.Prelude.{slice_get}
 use Rattle.std.specs.List.{All, flat_map}
@@ -12,7 +12,7 @@ use Rattle.nb_runner.specs.declared.answers.Answer.{Answer}
 use Rattle.nb_runner.specs.declared.answers.Answer.TheVariants as answer
 use Rattle.nb_script.specs.declared.script.Command.{Command}
 
--- ---- words
+-- ---- refused commands
 
 -- Where one of these commands found the map full, the commands before it may have filled it: those
 -- done, and the earlier ones of these.
@@ -56,6 +56,8 @@ just-at p done (d ∷ cs) (a ∷ answers) just (suc n) c full is =
     subst (λ xs. MayCrowd p xs c) (append_assoc done (d ∷ []) (take n cs))
     (just-at p (done ++ d ∷ []) cs answers just.1 n c full is)
 
+-- ---- whose the commands are
+
 -- where all workers' numbers are below 1, all commands are the one worker's
 pub commands-first :
     (phase : Phase) → All (λ task. task.0 < 1) phase
@@ -70,6 +72,7 @@ commands-first (task ∷ phase) below =
     (ap (λ cs. task.1 ∷ cs) (commands-first phase
     (All-tail (λ (task : ℕ × Command). task.0 < 1) task phase below)))
 
+-- and none another's
 pub commands-none :
     (phase : Phase) → All (λ task. task.0 < 1) phase → commands_but 0 phase ≡ []
 commands-none [] below = refl
