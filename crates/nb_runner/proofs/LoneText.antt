@@ -1,6 +1,6 @@
 -- With one worker the text is the plain map's, but for the commands that were refused for want of
 -- room.
-use Rattle.std.proofs.Common.{◌≡◌, ◌∙◌, ◌<◌, ◌≤◌, ℕ, zero, suc, Bool, true, false, cond, nat_lt, ltb-true, List, [], ◌∷◌, ◌++◌, map, take, Option, Some, None, length, ap, ap₂, sym, subst, refl, inl, inr, append_assoc, append-nil, arith}
+use Rattle.std.proofs.Common.{◌≡◌, ◌∙◌, ◌<◌, ◌≤◌, ℕ, zero, suc, Bool, true, false, cond, nat_lt, ltb-true, List, [], ◌∷◌, ◌++◌, length, map, take, drop, Option, Some, None, ap, ap₂, sym, subst, refl, inl, inr, append_assoc, append-nil, arith}
 use Rattle.std.specs.Prelude.{slice_get}
 use Rattle.std.specs.List.{All, flat_map}
 use Rattle.std.specs.FinMap.{get, get-insert}
@@ -10,29 +10,26 @@ use Rattle.std.proofs.lemmas.Grind.{flat_map-append}
 use Rattle.std.proofs.lemmas.List.{map-append}
 use Rattle.std.proofs.lemmas.List.Elements.{All-append, All-cons, All-head, All-nil, All-tail}
 use Rattle.nb_core.specs.Calls.{is_past_max, overflows}
-use Rattle.nb_core.specs.Log.{Entry, IsReplayed, Numbers, calls_of, changed, holds_of, map_after, map_of_log, reply_of, with_at}
+use Rattle.nb_core.specs.Log.{Entry, IsBeginning, IsReplayed, Numbers, calls_of, changed, holds_of, log_of, map_after, map_of_log, reply_of, with_at}
 use Rattle.nb_core.specs.History.{IsLegal}
 use Rattle.nb_core.specs.Laws.{HasLog}
-use Rattle.nb_core.specs.Meaning.{IsCrowded}
 use Rattle.nb_core.specs.Plans.{IsPlan, Plan}
 use Rattle.nb_core.specs.declared.numbers.TheConstants.{VALUE_MAX}
 use Rattle.nb_core.specs.declared.calls.Call.{Call}
 use Rattle.nb_core.specs.declared.calls.Call.TheVariants as call
 use Rattle.nb_core.specs.declared.calls.Reply.{Reply}
-use Rattle.nb_core.proofs.Theorems.{crowded_absent, log_is_replayed, map_in_range}
-use Rattle.nb_map.specs.Ending.{EndedOf, EndedWith, HasAll, log_left}
-use Rattle.nb_map.specs.Ending.{map_left as ended_map}
-use Rattle.nb_map.specs.Logs.{HasLogged, log}
-use Rattle.nb_map.specs.Maps.{MapOf, SeatOf, new_seat, new_seats}
+use Rattle.nb_core.specs.declared.events.Event.{Event}
+use Rattle.nb_core.specs.declared.events.Event.TheVariants.{Read, Won}
+use Rattle.nb_core.proofs.Theorems.{beginnings_are_legal, crowded_absent, log_is_replayed, map_in_range}
 use Rattle.nb_script.specs.Script.{Bytes, Phase}
 use Rattle.nb_runner.specs.Text.{answer_line, answer_of, call_of, ending, map_behind, map_after_command, shown, text_from}
-use Rattle.nb_runner.specs.Told.{IsLoneText, MayCrowd, all_commands, key_of_command, phase_text}
-use Rattle.nb_runner.specs.Working.{AreAnswered, HasMetAll, HasRunCommand, HasShownReply, HaveMet, HaveRun, PhaseRan, commands_of}
+use Rattle.nb_runner.specs.Told.{ArePhasesTold, AreTold, HasDone, IsCallShown, IsCommandTold, IsLoneText, IsPhaseTold, IsToldBy, MayCrowd, Refusals, WasCrowded, all_commands, key_of_command, phase_text}
+use Rattle.nb_runner.specs.Working.{commands_in, commands_of}
 use Rattle.nb_runner.specs.declared.answers.Answer.{Answer}
 use Rattle.nb_runner.specs.declared.answers.Answer.TheVariants as answer
 use Rattle.nb_script.specs.declared.script.Command.{Command}
-use Rattle.nb_runner.proofs.CallLemmas.{Calls}
-use Rattle.nb_runner.proofs.Fullness.{AreJust, commands-lone, crowd-lone-run, just-at, lone-new}
+use Rattle.nb_runner.proofs.CallLemmas.{Calls, beginning-more}
+use Rattle.nb_runner.proofs.Fullness.{AreJust, commands-first, commands-lone, commands-none, just-append, just-at}
 
 -- ---- a plain map
 
@@ -240,154 +237,174 @@ lone-entries (entry ∷ log) all =
     (ap₂ (λ s rest. record { seat = s; call = entry.call; reply = entry.reply } ∷ rest) zero
     (lone-entries log (All-tail IsFirstEntry entry log all)))
 
--- ---- one seat
+-- ---- moments of a legal history
+
+-- at this moment the log was that of a legal history
+record IsReached (p : Plan) (at : List Entry) : Type 0 where
+  history : List Event
+  legal : IsLegal p history
+  is : log_of history ≡ at
+
+-- so it was at each earlier moment
+reached-before :
+    (p : Plan) (h : List Event) (later at : List Entry) → IsLegal p h → log_of h ≡ later ++ at
+    → IsReached p at
+reached-before p h [] at legal is = record { history = h; legal = legal; is = is }
+reached-before p [] (entry ∷ later) at legal is = absurd cc
+reached-before p (Won s g i a b c r ∷ h) (entry ∷ later) at legal is =
+    reached-before p h later at legal.0 (ap (drop 1) is)
+reached-before p (Read s c r ∷ h) (entry ∷ later) at legal is =
+    reached-before p h later at legal.0 (ap (drop 1) is)
+reached-before p (_ ∷ h) (entry ∷ later) at legal is =
+    reached-before p h (entry ∷ later) at legal.0 is
+
+reached-begun :
+    {p : Plan} {before after : List Entry} → IsBeginning before after → IsReached p after
+    → IsReached p before
+reached-begun {p} {before} begun r =
+    reached-before p r.history begun.later before r.legal (r.is ∙ begun.is)
+
+-- ---- one worker
 
 module _
-    (m : MapOf) (plan : IsPlan m.chain.shape)
-    (single : m.chain.shape.seats ≡ 1)
+    (p : Plan) (plan : IsPlan p) (single : p.seats ≡ 1) (history : List Event)
+    (legal : IsLegal p history)
   where
-    abbrev p : Plan
-    p = m.chain.shape
+    abbrev full : Refusals
+    full = WasCrowded p history
 
-    -- the map that the calls left, as far as the seat has seen
-    abbrev held : SeatOf → Numbers
-    held seat = map_of_log (log seat)
+    has : {at : List Entry} (r : IsReached p at) → HasLog p r.history
+    has r = log_is_replayed p plan r.history r.legal
 
-    -- the seat is the map's first
-    record IsFirst (seat : SeatOf) : Type 0 where
-      number : seat.chain.number ≡ 0
-
-    -- what the seat has called more: all that is new in its log
-    record HasCalledMore (made : Calls) (before after : SeatOf) : Type 0 where
-      first : IsFirst after
-      has : HasLog p after.chain.seen
-      legal : IsLegal p after.chain.seen
-      log : log after ≡ map entry_by_first made ++ log before
-
-    called-more :
-        (before after : SeatOf) (made : Calls) → IsFirst before → IsLegal p after.chain.seen
-        → HasLogged before after made
-        → HasCalledMore made before after
-    called-more before after made first legal logged = record {
-      first = record { number = logged.number ∙ first.number };
-      has = has;
-      legal = legal;
-      log =
-          logged.grown
-          ∙ ap (λ later. later ++ log before)
-          (lone-entries logged.later (all-first logged.later (log before)
-          (subst (All IsFirstEntry) logged.grown (first-seats has.seats)))
-          ∙ ap (map entry_by_first) (ap (λ n. calls_of n logged.later) (sym first.number)
-          ∙ logged.own));
-    }
+    -- all that is new in the log is what the worker called
+    called :
+        (made : Calls) (before after : List Entry) → IsReached p after
+        → HasDone 0 made before after → after ≡ map entry_by_first made ++ before
+    called made before after r done =
+        done.begun.is
+        ∙ ap (λ later. later ++ before)
+        (lone-entries done.begun.later (all-first done.begun.later before
+        (subst (All IsFirstEntry) done.begun.is first)) ∙ ap (map entry_by_first) done.made)
       where
-        has : HasLog p after.chain.seen
-        has = log_is_replayed p plan after.chain.seen legal
-
-        first-seats : All (λ entry. entry.seat < p.seats) (log after) → All IsFirstEntry (log after)
-        first-seats = subst (λ n. All (λ entry. entry.seat < n) (log after)) single
+        first : All IsFirstEntry after
+        first = subst (All IsFirstEntry) r.is
+            (subst (λ n. All (λ entry. entry.seat < n) (log_of r.history)) single (has r).seats)
 
     -- The one call that was made answers as on the plain map.
     shown-plain :
-        (c : Command) (a : Answer) (before after : SeatOf) → IsFirst before
-        → IsLegal p after.chain.seen → HasShownReply c a before after
-        → IsFirst after × ((a ≡ answer_of c (held before))
-        × (held after ≡ map_after_command c (held before)))
-    shown-plain c a before after first legal is = (more.first, (answered, left))
+        (c : Command) (a : Answer) (before after : List Entry) → IsReached p after
+        → IsCallShown 0 c a before after
+        → (a ≡ answer_of c (map_of_log before))
+        × (map_of_log after ≡ map_after_command c (map_of_log before))
+    shown-plain c a before after r is = (answered, left)
       where
         reply : Reply
         reply = is.0
 
-        more : HasCalledMore ((call_of c, reply) ∷ []) before after
-        more = called-more before after ((call_of c, reply) ∷ []) first legal is.2
+        more : after ≡ record { seat = 0; call = call_of c; reply = reply } ∷ before
+        more = called ((call_of c, reply) ∷ []) before after r is.2
 
-        replies : IsReplayed (record { seat = 0; call = call_of c; reply = reply } ∷ log before)
-        replies = subst IsReplayed more.log more.has.replayed
+        replies : IsReplayed (record { seat = 0; call = call_of c; reply = reply } ∷ before)
+        replies = subst IsReplayed (r.is ∙ more) (has r).replayed
 
-        then : held after ≡ map_after (call_of c) (held before)
-        then = ap map_of_log more.log
+        then : map_of_log after ≡ map_after (call_of c) (map_of_log before)
+        then = ap map_of_log more
 
-        acts : overflows (call_of c) (held before) ≡ false
-        acts = fits (call_of c) (held before)
-            (λ k n there. (map_in_range p plan after.chain.seen more.legal k n
-            (ap (λ x. get x k) (sym more.has.map ∙ then) ∙ there)).1)
+        acts : overflows (call_of c) (map_of_log before) ≡ false
+        acts = fits (call_of c) (map_of_log before)
+            (λ k n there. (map_in_range p plan r.history r.legal k n
+            (ap (λ x. get x k) (sym (has r).map ∙ ap map_of_log r.is ∙ then) ∙ there)).1)
 
-        answered : a ≡ answer_of c (held before)
+        answered : a ≡ answer_of c (map_of_log before)
         answered =
             sym is.1 ∙ ap (shown c) replies.0
-            ∙ sym (ap (λ b. cond b answer.Range (shown c (reply_of (call_of c) (held before))))
+            ∙ sym (ap (λ b. cond b answer.Range (shown c (reply_of (call_of c) (map_of_log before))))
             acts)
 
-        left : held after ≡ map_after_command c (held before)
-        left = then ∙ sym (ap (λ b. cond b (held before) (map_after (call_of c) (held before)))
+        left : map_of_log after ≡ map_after_command c (map_of_log before)
+        left = then
+            ∙ sym (ap (λ b. cond b (map_of_log before) (map_after (call_of c) (map_of_log before)))
             acts)
 
     -- a refused call leaves the map
-    refused-left : (before after : SeatOf) → HasCalledMore [] before after
-        → held after ≡ held before
-    refused-left before after more = ap map_of_log more.log
+    refused-left :
+        (before after : List Entry) → IsReached p after → HasDone 0 [] before after
+        → map_of_log after ≡ map_of_log before
+    refused-left before after r done = ap map_of_log (called [] before after r done)
 
     -- and where it is refused for want of room, its key is absent
     refused-absent :
-        (c : Command) (before after : SeatOf) → HasCalledMore [] before after
-        → IsCrowded p after.chain.seen (key_of_command c)
-        → get (held before) (key_of_command c) ≡ None
-    refused-absent c before after more crowded =
-        ap (λ x. get x (key_of_command c)) (sym (refused-left before after more) ∙ more.has.map)
-        ∙ crowded_absent p plan after.chain.seen more.legal (key_of_command c) crowded
+        (so_far : List Command) (c : Command) (before after : List Entry) → IsReached p after
+        → WasCrowded p history so_far c after → HasDone 0 [] before after
+        → get (map_of_log before) (key_of_command c) ≡ None
+    refused-absent so_far c before after r crowded done =
+        ap (λ x. get x (key_of_command c))
+        (sym (refused-left before after r done) ∙ ap map_of_log (sym crowded.2)
+        ∙ (log_is_replayed p plan crowded.0 then).map)
+        ∙ crowded_absent p plan crowded.0 then (key_of_command c) crowded.3
+      where
+        then : IsLegal p crowded.0
+        then = beginnings_are_legal p crowded.1.later crowded.0
+            (subst (IsLegal p) crowded.1.is legal)
 
     -- an add that is refused for its sum answers so on the plain map
     past-plain :
-        (c : Command) (before after : SeatOf) → HasCalledMore [] before after
-        → overflows (call_of c) (held after) ≡ true
-        → (answer.Range ≡ answer_of c (held before))
-        × (held after ≡ map_after_command c (held before))
-    past-plain c before after more past = (
-      sym (ap (λ b. cond b answer.Range (shown c (reply_of (call_of c) (held before)))) over),
-      same ∙ sym (ap (λ b. cond b (held before) (map_after (call_of c) (held before))) over),
+        (c : Command) (before after : List Entry) → map_of_log after ≡ map_of_log before
+        → overflows (call_of c) (map_of_log after) ≡ true
+        → (answer.Range ≡ answer_of c (map_of_log before))
+        × (map_of_log after ≡ map_after_command c (map_of_log before))
+    past-plain c before after same past = (
+      sym (ap (λ b. cond b answer.Range (shown c (reply_of (call_of c) (map_of_log before)))) over),
+      same
+          ∙ sym (ap (λ b. cond b (map_of_log before) (map_after (call_of c) (map_of_log before)))
+          over),
     )
       where
-        same : held after ≡ held before
-        same = refused-left before after more
-
-        over : overflows (call_of c) (held before) ≡ true
+        over : overflows (call_of c) (map_of_log before) ≡ true
         over = ap (overflows (call_of c)) (sym same) ∙ past
 
-    answered-plain :
-        (c : Command) (a : Answer) (before after : SeatOf) → IsFirst before
-        → HasRunCommand m c a before after
-        → IsFirst after × IsPlain c a (held before) (held after)
-    answered-plain c answer.Nothing before after first is =
-        shown-plain c answer.Nothing before after first is.1.1.1.grown.legal is.0
-    answered-plain c (answer.Value n) before after first is =
-        shown-plain c (answer.Value n) before after first is.1.1.1.grown.legal is.0
-    answered-plain c (answer.Matched b) before after first is =
-        shown-plain c (answer.Matched b) before after first is.1.1.1.grown.legal is.0
-    answered-plain c answer.Full before after first is =
-        let more = called-more before after [] first is.1.1.1.grown.legal is.0.unmade in
-        (more.first, (refused-absent c before after more is.0.just.1, refused-left before after more))
-    answered-plain c answer.Range before after first is =
-        let more = called-more before after [] first is.1.1.1.grown.legal is.0.unmade in
-        (more.first, past-plain c before after more is.0.just)
+    -- One command answers as on the plain map, or may find it full.
+    command-plain :
+        (so_far : List Command) (c : Command) (a : Answer) (before after : List Entry)
+        → IsReached p after → IsCommandTold full so_far 0 c a before after
+        → IsBeginning before after × IsPlain c a (map_of_log before) (map_of_log after)
+        × (a ≡ answer.Full → MayCrowd p so_far c)
+    command-plain so_far c answer.Nothing before after r is =
+        (is.2.begun, shown-plain c answer.Nothing before after r is, λ same. absurd cc)
+    command-plain so_far c (answer.Value n) before after r is =
+        (is.2.begun, shown-plain c (answer.Value n) before after r is, λ same. absurd cc)
+    command-plain so_far c (answer.Matched b) before after r is =
+        (is.2.begun, shown-plain c (answer.Matched b) before after r is, λ same. absurd cc)
+    command-plain so_far c answer.Full before after r is = (
+      is.1.begun,
+      (
+        refused-absent so_far c before after r is.0 is.1,
+        refused-left before after r is.1,
+      ),
+      λ same. is.0.5,
+    )
+    command-plain so_far c answer.Range before after r is = (
+      is.1.begun,
+      past-plain c before after (refused-left before after r is.1) is.0,
+      λ same. absurd cc,
+    )
 
+    -- and so do some, one after another
     commands-plain :
-        (cs : List Command) (answers : List Answer) (before after : SeatOf) → IsFirst before
-        → AreAnswered m cs answers before after
-        → IsFirst after × ArePlain cs answers (held before) (held after)
-    commands-plain [] [] before after first is = (subst IsFirst (sym is) first, ap held is)
-    commands-plain [] (a ∷ answers) before after first is = absurd is
-    commands-plain (c ∷ cs) [] before after first is = absurd is
-    commands-plain (c ∷ cs) (a ∷ answers) before after first is =
-        let one = answered-plain c a before is.0 first is.1 in
-        let rest = commands-plain cs answers is.0 after one.0 is.2 in
-        (rest.0, (held is.0, one.1, rest.1))
-
-    -- a meeting leaves the map
-    met-plain : (seats : List SeatOf) (before after : SeatOf) → IsFirst before
-        → HasMetAll m seats before after → IsFirst after × (held after ≡ held before)
-    met-plain seats before after first met =
-        let more = called-more before after [] first met.grown.legal met.logged in
-        (more.first, refused-left before after more)
+        (so_far cs : List Command) (answers : List Answer) (before after : List Entry)
+        → IsReached p after → AreTold full so_far 0 cs answers before after
+        → IsBeginning before after × ArePlain cs answers (map_of_log before) (map_of_log after)
+        × AreJust p so_far cs answers
+    commands-plain so_far [] [] before after r is = (is.begun, refused-left before after r is, tt)
+    commands-plain so_far [] (a ∷ answers) before after r is = absurd is
+    commands-plain so_far (c ∷ cs) [] before after r is = absurd is
+    commands-plain so_far (c ∷ cs) (a ∷ answers) before after r is =
+        let rest = commands-plain (so_far ++ c ∷ []) cs answers is.0 after r is.2 in
+        let one = command-plain so_far c a before is.0 (reached-begun rest.0 r) is.1 in (
+          beginning-more one.0 rest.0,
+          (map_of_log is.0, one.1, rest.1),
+          (one.2, rest.2),
+        )
 
     -- ---- a run
 
@@ -396,12 +413,13 @@ module _
     flat answers = flat_map (flat_map (λ mine. mine)) answers
 
     -- what the one worker did in some phases, and the lines of its answers
-    record HasRunPlain (phases : List Phase) (answers : List (List (List Answer))) (before : SeatOf)
-        (after : List SeatOf) : Type 0 where
-      seat : SeatOf
-      is : after ≡ seat ∷ []
-      first : IsFirst seat
-      plain : ArePlain (flat_map (commands_of 0) phases) (flat answers) (held before) (held seat)
+    record HasRunPlain (so_far : List Command) (phases : List Phase)
+        (answers : List (List (List Answer))) (before after : List Entry) : Type 0 where
+      begun : IsBeginning before after
+      plain :
+          ArePlain (flat_map (commands_of 0) phases) (flat answers) (map_of_log before)
+          (map_of_log after)
+      just : AreJust p so_far (flat_map (commands_of 0) phases) (flat answers)
       lines : flat_map (phase_text 0) answers ≡ flat_map (answer_line 0) (flat answers)
 
     lines-more :
@@ -417,80 +435,75 @@ module _
         ∙ ap (λ xs. flat_map (answer_line 0) (xs ++ flat answers)) (sym (append-nil mine))
 
     run-plain :
-        (phases : List Phase) (answers : List (List (List Answer))) (before : SeatOf)
-        (after : List SeatOf) → IsFirst before
-        → HaveRun m phases answers (before ∷ []) after → HasRunPlain phases answers before after
-    run-plain [] [] before after first ran =
-        record { seat = before; is = ran; first = first; plain = refl; lines = refl }
-    run-plain [] (now ∷ answers) before after first ran = absurd ran
-    run-plain (phase ∷ phases) [] before after first ran = absurd ran
-    run-plain (phase ∷ phases) (now ∷ answers) before after first ran =
-        of now ran.0 ran.1 ran.2 ran.3 (λ u. run-plain phases answers u after) ran.4
+        (so_far : List Command) (phases : List Phase) (answers : List (List (List Answer)))
+        (before after : List Entry) → All (All IsFirstWorkers) phases
+        → All (λ phase. length phase ≡ p.seats) answers → IsReached p after
+        → ArePhasesTold full so_far phases answers before after
+        → HasRunPlain so_far phases answers before after
+    run-plain so_far [] [] before after below each r told = record {
+      begun = record { later = []; is = told };
+      plain = ap map_of_log told;
+      just = tt;
+      lines = refl;
+    }
+    run-plain so_far [] (now ∷ answers) before after below each r told = absurd told
+    run-plain so_far (phase ∷ phases) [] before after below each r told = absurd told
+    run-plain so_far (phase ∷ phases) (now ∷ answers) before after below each r told =
+        let rest = run-plain (so_far ++ commands_in phase) phases answers told.0 after
+        (All-tail (All IsFirstWorkers) phase phases below) (All-tail IsOfSeats now answers each) r
+        told.2 in
+        of now (All-head IsOfSeats now answers each ∙ single) told.1 rest
       where
+        IsOfSeats : List (List Answer) → Type 0
+        IsOfSeats now = length now ≡ p.seats
+
+        next : List Entry
+        next = told.0
+
+        first : All IsFirstWorkers phase
+        first = All-head (All IsFirstWorkers) phase phases below
+
+        -- the answers of the one worker alone
         of :
-            (now : List (List Answer)) (apart joined : List SeatOf)
-            → PhaseRan m phase 0 now (before ∷ []) apart → HaveMet m apart joined
-            → ((u : SeatOf) → IsFirst u → HaveRun m phases answers (u ∷ []) after
-            → HasRunPlain phases answers u after)
-            → HaveRun m phases answers joined after
-            → HasRunPlain (phase ∷ phases) (now ∷ answers) before after
-        of (mine ∷ []) (t ∷ []) (u ∷ []) phase_ran met rest later =
-            let own = commands-plain (commands_of 0 phase) mine before t first phase_ran.0 in
-            let meeting = met-plain (t ∷ []) t u own.0 met.0 in
-            let others = rest u meeting.0 later in
+            (now : List (List Answer)) → length now ≡ 1
+            → IsPhaseTold full so_far phase 0 now before next
+            → HasRunPlain (so_far ++ commands_in phase) phases answers next after
+            → HasRunPlain so_far (phase ∷ phases) (now ∷ answers) before after
+        of [] one is rest = absurd cc
+        of (mine ∷ other ∷ others) one is rest = absurd cc
+        of (mine ∷ []) one is rest =
+            let own = commands-plain so_far (commands_of 0 phase) mine before next
+            (reached-begun rest.begun r)
+            (subst (λ more. AreTold full more 0 (commands_of 0 phase) mine before next)
+            (ap (λ others. so_far ++ others) (commands-none phase first) ∙ append-nil so_far) is.0) in
             record {
-              seat = others.seat;
-              is = others.is;
-              first = others.first;
+              begun = beginning-more own.0 rest.begun;
               plain =
                   plain-append (commands_of 0 phase) (flat_map (commands_of 0) phases) (mine ++ [])
-                  (flat answers) (held before) (held u)
-                  (held others.seat)
-                  (subst (λ x. ArePlain (commands_of 0 phase) (mine ++ []) (held before) x)
-                  (sym meeting.1)
-                  (subst (λ xs. ArePlain (commands_of 0 phase) xs (held before) (held t))
-                  (sym (append-nil mine)) own.1))
-                  others.plain;
-              lines = lines-more mine answers others.lines;
+                  (flat answers) (map_of_log before) (map_of_log next) (map_of_log after)
+                  (subst (λ xs. ArePlain (commands_of 0 phase) xs (map_of_log before)
+                  (map_of_log next)) (sym (append-nil mine)) own.1)
+                  rest.plain;
+              just =
+                  just-append p so_far (commands_of 0 phase) (flat_map (commands_of 0) phases)
+                  (mine ++ []) (flat answers)
+                  (subst (AreJust p so_far (commands_of 0 phase)) (sym (append-nil mine)) own.2)
+                  (subst (λ cs. AreJust p (so_far ++ cs) (flat_map (commands_of 0) phases)
+                  (flat answers)) (sym (commands-first phase first)) rest.just);
+              lines = lines-more mine answers rest.lines;
             }
-        of (mine ∷ []) (t ∷ []) [] phase_ran met rest later = absurd met
-        of (mine ∷ []) (t ∷ []) (u ∷ v ∷ joined) phase_ran met rest later = absurd met.1
-        of [] apart joined phase_ran met rest later = absurd phase_ran
-        of (mine ∷ others) [] joined phase_ran met rest later = absurd phase_ran
-        of (mine ∷ []) (t ∷ v ∷ apart) joined phase_ran met rest later = absurd phase_ran.1
-        of (mine ∷ other ∷ others) (t ∷ apart) joined phase_ran met rest later = absurd phase_ran.1
 
-    -- the ended map is the one that the seat's calls left
-    ended-plain : (after : List SeatOf) (ended : EndedOf) → EndedWith after ended → (seat : SeatOf)
-        → after ≡ seat ∷ [] → IsFirst seat
-        → ended_map ended ≡ held seat
-    ended-plain after ended end seat is first =
-        let all = All-head (HasAll (log_left ended)) seat []
-        (subst (All (HasAll (log_left ended))) is end.logs) in
-        let made = subst (λ n. All (λ entry. entry.seat < n) (log_left ended)) (ap length is)
-        end.made in
-        let none = ap (λ n. calls_of n all.later) (sym first.number) ∙ all.others in
-        ap map_of_log
-        (all.is
-        ∙ ap (λ later. later ++ log seat)
-        (lone-entries all.later (all-first all.later (log seat)
-        (subst (All IsFirstEntry) all.is made)) ∙ ap (map entry_by_first) none))
-
--- What one worker was answered is the plain map's text, but for commands that were refused for want
--- of room, each where earlier commands may have filled the map.
+-- With one worker, whose the commands are, what a history tells is the plain map's text, but for
+-- commands that were refused for want of room.
 pub lone-text :
-    (m : MapOf) → IsPlan m.chain.shape
-    → m.chain.shape.seats ≡ 1 → (phases : List Phase) (answers : List (List (List Answer)))
-    (after : List SeatOf) (ended : EndedOf)
-    → All (λ phase. All (λ task. task.0 < 1) phase) phases
-    → HaveRun m phases answers (new_seats m m.chain.shape.seats) after
-    → EndedWith after ended
-    → IsLoneText m.chain.shape phases (flat_map (phase_text 0) answers ++ ending (ended_map ended))
-lone-text m plan single phases answers after ended below ran end = record {
+    (p : Plan) → IsPlan p → p.seats ≡ 1 → (phases : List Phase) → All (All IsFirstWorkers) phases
+    → (history : List Event) (text : Bytes)
+    → IsToldBy p phases history text → IsLoneText p phases text
+lone-text p plan single phases below history text told = record {
   full = full_at all;
   is =
-      ap (λ bytes. bytes ++ ending (ended_map ended)) done.lines
-      ∙ ap (λ x. flat_map (answer_line 0) all ++ ending x) ends
+      told.is
+      ∙ ap (λ bytes. bytes ++ ending left) done.lines
       ∙ sym (text-plain (flat_map (λ phase. phase) phases) all map_none left (all-flat phases below)
       (subst (λ cs. ArePlain cs all map_none left) (same ∙ sym (commands-flat phases)) done.plain));
   absent = λ n c full is.
@@ -499,33 +512,24 @@ lone-text m plan single phases answers after ended below ran end = record {
       (absent-at (flat_map (commands_of 0) phases) all map_none left done.plain n c full
       (subst (λ cs. slice_get cs n ≡ Some c) (sym same) is));
   just = λ n c full is.
-      subst (λ cs. MayCrowd m.chain.shape (take n cs) c) same
-      (just-at m.chain.shape [] (flat_map (commands_of 0) phases) all just n c (full-at all n full)
+      subst (λ cs. MayCrowd p (take n cs) c) same
+      (just-at p [] (flat_map (commands_of 0) phases) all done.just n c (full-at all n full)
       (subst (λ cs. slice_get cs n ≡ Some c) (sym same) is));
 }
   where
     all : List Answer
-    all = flat_map (flat_map (λ mine. mine)) answers
+    all = flat_map (flat_map (λ mine. mine)) told.answers
 
     same : flat_map (commands_of 0) phases ≡ all_commands phases
     same = commands-lone phases below
-
-    from_new : HaveRun m phases answers (new_seat m 0 ∷ []) after
-    from_new = subst (λ n. HaveRun m phases answers (new_seats m n) after) single ran
-
-    done : HasRunPlain m plan single phases answers (new_seat m 0) after
-    done = run-plain m plan single phases answers (new_seat m 0) after (record { number = refl })
-        from_new
 
     map_none : Numbers
     map_none = map_of_log []
 
     left : Numbers
-    left = map_of_log (log done.seat)
+    left = map_of_log (log_of history)
 
-    ends : ended_map ended ≡ left
-    ends = ended-plain m plan single after ended end done.seat done.is done.first
-
-    just : AreJust m.chain.shape [] (flat_map (commands_of 0) phases) all
-    just = crowd-lone-run m plan single [] phases answers (new_seat m 0) after (lone-new m plan)
-        from_new
+    done : HasRunPlain p plan single history told.legal [] phases told.answers [] (log_of history)
+    done = run-plain p plan single history told.legal [] phases told.answers [] (log_of history)
+        below told.each
+        (record { history = history; legal = told.legal; is = refl }) told.told

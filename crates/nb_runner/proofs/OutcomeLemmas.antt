@@ -17,7 +17,7 @@ use Rattle.nb_map.specs.Maps.{AreMine, IsMine, MapOf, SeatOf, new_seat, new_seat
 use Rattle.nb_runner.specs.Outcomes.{HaveWorkers, IsOutcome, lists_in, text_of_outcome}
 use Rattle.nb_script.specs.Script.{Phase}
 use Rattle.nb_runner.specs.Text.{ending, ending_of}
-use Rattle.nb_runner.specs.Told.{ArePhasesTold, IsLoneText, WasCrowded, phase_text}
+use Rattle.nb_runner.specs.Told.{ArePhasesTold, IsToldBy, WasCrowded, phase_text}
 use Rattle.nb_runner.specs.Working.{AreNumbered, HasRoomForAnswers, HaveRun, HaveRunAll, all_answers, answers_of, commands_of, joined_answers, worker_seats}
 use Rattle.nb_runner.specs.declared.answers.Answer.{Answer}
 use Rattle.nb_runner.specs.declared.outcome.Outcome.{Outcome}
@@ -302,19 +302,10 @@ is-outcome m plan phases before after ended o are fresh ran end left answers siz
       );
   answered = joined-answers phases ran.answers (lists_in o.answers.items) in_lists;
   history = ended.tables.history;
-  told = record {
-    legal = subst (λ q. IsLegal q ended.tables.history) left.shape left.left.legal;
-    replayed = end.replayed;
-    workers = made;
-    answers = ran.answers;
-    each = told.1;
-    told = told.0;
-    is = text;
-  };
+  told = told;
   lone = λ single below.
-      subst (IsLoneText p phases) (sym text)
-      (lone-text m plan single phases ran.answers (worker_seats after) ended
-      (subst (λ n. HaveWorkers n phases) single below) from_new end);
+      lone-text p plan single phases (subst (λ n. HaveWorkers n phases) single below)
+      ended.tables.history (text_of_outcome phases o) told;
 }
   where
     p : Plan
@@ -333,12 +324,23 @@ is-outcome m plan phases before after ended o are fresh ran end left answers siz
     made : All (λ entry. entry.seat < p.seats) (log_left ended)
     made = subst (λ n. All (λ entry. entry.seat < n) (log_left ended)) count end.made
 
-    told : ArePhasesTold (WasCrowded p ended.tables.history) [] phases ran.answers []
+    by_phases : ArePhasesTold (WasCrowded p ended.tables.history) [] phases ran.answers []
         (log_left ended) × All (IsEach p.seats) ran.answers
-    told = told-phases m plan phases ran.answers (worker_seats after) ended from_new end left made
+    by_phases = told-phases m plan phases ran.answers (worker_seats after) ended from_new end left made
 
     text : text_of_outcome phases o ≡ flat_map (phase_text 0) ran.answers ++ ending (map_left ended)
     text =
         ap₂ (λ lines last. lines ++ last)
         (joined-lines phases ran.answers (lists_in o.answers.items) in_lists)
         (ending-same (map_left ended) o.size o.entries.items size kept)
+
+    told : IsToldBy p phases ended.tables.history (text_of_outcome phases o)
+    told = record {
+      legal = subst (λ q. IsLegal q ended.tables.history) left.shape left.left.legal;
+      replayed = end.replayed;
+      workers = made;
+      answers = ran.answers;
+      each = by_phases.1;
+      told = by_phases.0;
+      is = text;
+    }

@@ -142,7 +142,7 @@ pub record IsToldBy (p : Plan) (phases : List Phase) (history : List Event) (tex
 
 -- The text is the plain map's but for some commands that were refused for want of room. Before each
 -- of these its key was absent; the command may put a number there, and earlier commands may have
--- filled the map.
+-- filled the map. Where all commands are the one worker's, this follows from IsToldBy.
 pub record IsLoneText (p : Plan) (phases : List Phase) (text : Bytes) : Type 0 where
   pub full : ℕ → Bool
   pub is : text ≡ text_of full phases
