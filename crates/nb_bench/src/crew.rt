@@ -68,8 +68,7 @@ pub(crate) trait Job {
 }
 
 /// Puts numbers at the keys with these places.
-#[inline(never)]
-pub(crate) fn put_all<R: Wait, C: Caller>(
+pub(crate) fn put_at<R: Wait, C: Caller>(
     rt: &R,
     caller: &mut C,
     spacing: Spacing,
@@ -152,7 +151,7 @@ where
     J: Job + Sync,
 {
     if let Some(first) = workers.first_mut() {
-        put_all(rt, &mut first.caller, spacing, places)?;
+        put_at(rt, &mut first.caller, spacing, places)?;
     }
     all_work(rt, workers, job);
     counted(workers)

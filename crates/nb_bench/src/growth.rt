@@ -2,14 +2,13 @@
 ghost use Rattle.std.specs.Prelude.{◌≡◌, ◌*◌, ◌/◌, ◌-◌, ◌<◌, length, min, slice_index};
 
 use crate::callers::Caller;
-use crate::crew::{Done, Job, Worker, do_job, put_all};
+use crate::crew::{Done, Job, Worker, do_job, put_at};
 use crate::faults::WorkFault;
 use crate::keys::{Spacing, number, shuffled};
-use crate::kinds::get_all;
 use crate::meeting::Meeting;
 use crate::options::Options;
 use crate::timing::{Watch, nanoseconds_since, now};
-use nb_core::OutOfMemory;
+use nb_core::{Num, OutOfMemory};
 use std::alloc::Global;
 use std::rt::Clock;
 use std::sync::Wait;
@@ -69,8 +68,8 @@ impl<'a> Growth<'a> {
         let spacing = self.spacing;
         match self.pass {
             Pass::LongestPut => return longest_put(rt, &mut worker.caller, spacing, places),
-            Pass::Puts => put_all(rt, &mut worker.caller, spacing, places)?,
-            Pass::Gets => worker.tally.sum = get_all(rt, &mut worker.caller, spacing, places),
+            Pass::Puts => put_at(rt, &mut worker.caller, spacing, places)?,
+            Pass::Gets => worker.tally.sum = get_at(rt, &mut worker.caller, spacing, places),
             Pass::TimedPuts => time_puts(rt, worker, spacing, places)?,
         }
         Ok(0)
@@ -96,6 +95,16 @@ impl Job for Growth<'_> {
         };
         Ok(())
     }
+}
+
+/// Gets the keys with these places, and answers the sum of what they have.
+fn get_at<R: Wait, C: Caller>(rt: &R, caller: &mut C, spacing: Spacing, places: &[u32]) -> u64 {
+    let mut sum = 0u64;
+    for place in places {
+        let found = caller.get(rt, spacing.key(*place));
+        sum = sum.wrapping_add(found.map_or(0, Num::get));
+    }
+    sum
 }
 
 /// Puts numbers at the keys with these places, and answers how long the longest put took.

@@ -1,14 +1,14 @@
 //! Calls of one kind, one after another, each at its key's home slot: what a call of each kind
-//! takes.
+//! takes. The loops have the map and its seat apart, so that a call loads nothing more than it needs.
+ghost use Rattle.nb_map.specs.Maps.{IsMine};
 
-use crate::callers::Caller;
-use crate::crew::put_all;
 use crate::faults::{WorkFault, Wrong};
 use crate::keys::{KEY_COUNT, Spacing, number, shuffled};
 use crate::options::Options;
 use crate::seats::MapSeat;
 use crate::timing::{Watch, nanoseconds_since, now};
 use nb_core::Num;
+use nb_map::{Map, Seat};
 use std::alloc::Global;
 use std::rt::Clock;
 use std::sync::Wait;
@@ -57,32 +57,58 @@ impl Kind {
     }
 }
 
+/// Puts a number at each of the keys.
+#[inline(never)]
+fn put_all<R: Wait>(
+    rt: &R,
+    map: &Map,
+    seat: &mut Seat,
+    spacing: Spacing,
+    places: &[u32],
+) -> Result<(), WorkFault>
+    requires own { IsMine map.now seat.old }
+    ensures own { IsMine map.now seat.new }
+{
+    for place in places {
+        let before = map.put(rt, seat, spacing.key(*place), number(*place));
+        if before.is_err() {
+            return Err(WorkFault::Full);
+        }
+    }
+    Ok(())
+}
+
 /// Puts at each of the keys the number of its neighbour. A put of the number that is there would
 /// change nothing.
 #[inline(never)]
 fn put_other<R: Wait>(
     rt: &R,
-    seat: &mut MapSeat,
+    map: &Map,
+    seat: &mut Seat,
     spacing: Spacing,
     places: &[u32],
-) -> Result<(), WorkFault> {
+) -> Result<(), WorkFault>
+    requires own { IsMine map.now seat.old }
+    ensures own { IsMine map.now seat.new }
+{
     for place in places {
-        seat.put(rt, spacing.key(*place), number(*place ^ 1))?;
+        let before = map.put(rt, seat, spacing.key(*place), number(*place ^ 1));
+        if before.is_err() {
+            return Err(WorkFault::Full);
+        }
     }
     Ok(())
 }
 
 /// Gets each of the keys, and answers the sum of what they have.
 #[inline(never)]
-pub(crate) fn get_all<R: Wait, C: Caller>(
-    rt: &R,
-    caller: &mut C,
-    spacing: Spacing,
-    places: &[u32],
-) -> u64 {
+fn get_all(map: &Map, seat: &mut Seat, spacing: Spacing, places: &[u32]) -> u64
+    requires own { IsMine map.now seat.old }
+    ensures own { IsMine map.now seat.new }
+{
     let mut sum = 0u64;
     for place in places {
-        let found = caller.get(rt, spacing.key(*place));
+        let found = map.get(seat, spacing.key(*place));
         sum = sum.wrapping_add(found.map_or(0, Num::get));
     }
     sum
@@ -92,44 +118,66 @@ pub(crate) fn get_all<R: Wait, C: Caller>(
 #[inline(never)]
 fn add_all<R: Wait>(
     rt: &R,
-    seat: &mut MapSeat,
+    map: &Map,
+    seat: &mut Seat,
     spacing: Spacing,
     places: &[u32],
-) -> Result<(), WorkFault> {
+) -> Result<(), WorkFault>
+    requires own { IsMine map.now seat.old }
+    ensures own { IsMine map.now seat.new }
+{
     for place in places {
-        seat.add(rt, spacing.key(*place), number(1))?;
+        if map.add(rt, seat, spacing.key(*place), number(1)).is_err() {
+            return Err(WorkFault::Full);
+        }
     }
     Ok(())
 }
 
 /// Takes out each of the keys.
 #[inline(never)]
-fn remove_all<R: Wait>(rt: &R, seat: &mut MapSeat, spacing: Spacing, places: &[u32]) {
+fn remove_all<R: Wait>(rt: &R, map: &Map, seat: &mut Seat, spacing: Spacing, places: &[u32])
+    requires own { IsMine map.now seat.old }
+    ensures own { IsMine map.now seat.new }
+{
     for place in places {
-        seat.remove(rt, spacing.key(*place));
+        map.remove(rt, seat, spacing.key(*place));
     }
+}
+
+/// Makes a call of the kind at each of the keys, and answers the sum of what they read.
+fn call_all<R: Wait>(
+    rt: &R,
+    map: &Map,
+    seat: &mut Seat,
+    spacing: Spacing,
+    places: &[u32],
+    kind: Kind,
+) -> Result<u64, WorkFault>
+    requires own { IsMine map.now seat.old }
+    ensures own { IsMine map.now seat.new }
+{
+    match kind {
+        Kind::PutNew => put_all(rt, map, seat, spacing, places)?,
+        Kind::Put => put_other(rt, map, seat, spacing, places)?,
+        Kind::Get | Kind::GetNone => return Ok(get_all(map, seat, spacing, places)),
+        Kind::Add => add_all(rt, map, seat, spacing, places)?,
+        Kind::Remove => remove_all(rt, map, seat, spacing, places),
+    }
+    Ok(0)
 }
 
 /// Makes a call of the kind at each of the keys, and answers how long they took together, and the
 /// sum of what they read.
 fn time_all<R: Wait + Clock>(
     rt: &R,
-    seat: &mut MapSeat,
+    own: &mut MapSeat,
     spacing: Spacing,
     places: &[u32],
     kind: Kind,
 ) -> Result<(u64, u64), WorkFault> {
     let start = now(rt)?;
-    let mut sum = 0u64;
-    let mut called = Ok(());
-    match kind {
-        Kind::PutNew => called = put_all(rt, seat, spacing, places),
-        Kind::Put => called = put_other(rt, seat, spacing, places),
-        Kind::Get | Kind::GetNone => sum = get_all(rt, seat, spacing, places),
-        Kind::Add => called = add_all(rt, seat, spacing, places),
-        Kind::Remove => remove_all(rt, seat, spacing, places),
-    }
-    called?;
+    let sum = call_all(rt, &own.map, &mut own.seat, spacing, places, kind)?;
     Ok((nanoseconds_since(rt, start)?, sum))
 }
 

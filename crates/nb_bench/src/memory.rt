@@ -1,6 +1,6 @@
 //! What memory a map takes that has all keys.
 
-use crate::crew::put_all;
+use crate::crew::put_at;
 use crate::faults::WorkFault;
 use crate::keys::{Spacing, shuffled};
 use crate::options::Options;
@@ -40,7 +40,7 @@ fn resident_filled<R: Wait + Files + AllocGlobal>(
     places: &[u32],
 ) -> Result<Option<u64>, WorkFault> {
     if let Some(seat) = seats.first_mut() {
-        put_all(rt, seat, spacing, places)?;
+        put_at(rt, seat, spacing, places)?;
     }
     Ok(resident(rt))
 }

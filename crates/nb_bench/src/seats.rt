@@ -13,8 +13,8 @@ use std::sync::{Arc, Wait};
 /// A seat beside the map that it is of. Contracts see nothing of it, since it is so of each.
 #[derive(Drop)]
 pub(crate) struct MapSeat {
-    map: Arc<Map, Global>,
-    seat: Seat,
+    pub(crate) map: Arc<Map, Global>,
+    pub(crate) seat: Seat,
 }
 
 impl Model for MapSeat {
@@ -53,15 +53,6 @@ impl MapSeat {
             all.push(MapSeat { map, seat })?;
         }
         Ok(all)
-    }
-
-    /// Adds a number at a key, if there is room for the key and the sum is a number.
-    #[inline(always)]
-    pub(crate) fn add<R: Wait>(&mut self, rt: &R, key: Key, number: Num) -> Result<(), WorkFault> {
-        match self.map.add(rt, &mut self.seat, key, number) {
-            Ok(_) => Ok(()),
-            Err(_) => Err(WorkFault::Full),
-        }
     }
 
     /// How many keys the map has, where nobody writes and the threads that did have ended.

@@ -1,0 +1,5 @@
+use Rattle.nb_map.specs.Maps.{IsMine}
+use Rattle.nb_bench.proofs.kinds.put_other.Given as goal
+
+abbrev pub invariant-loop-place : goal.invariant-loop-place
+invariant-loop-place g l = IsMine l.map l.seat
