@@ -1,8 +1,9 @@
-/* Loaded before a program's libraries, it refuses the program's Nth request for memory or for a thread, and at the end of the
-   program says how many such requests there were, how many blocks of memory were left, and how many threads began. A request for
-   memory is one to malloc and its like, or to mmap; each mapped page that is left counts as a block. Blocks that the C library takes
-   to start a thread aren't counted, since it keeps them for the next one. N stands in REFUSE, and the number of the descriptor to
-   say it on in REFUSED. */
+/* Loaded before a program's libraries, it refuses the program's Nth request for memory or for a thread, or all of them from the
+   Nth on, until there is one for a MiB or more: the program says so that memory is there again. At the end of the program it says
+   how many such requests there were, how many blocks of memory were left, and how many threads began. A request for memory is one
+   to malloc and its like, or to mmap; each mapped page that is left counts as a block. Blocks that the C library takes to start a
+   thread aren't counted, since it keeps them for the next one. N stands in REFUSE, with a + behind it where all from the Nth on
+   are refused, and the number of the descriptor to say it on in REFUSED. */
 #define _GNU_SOURCE
 #include <dlfcn.h>
 #include <errno.h>
@@ -22,6 +23,7 @@ void __libc_free(void *block);
 
 static int (*create)(pthread_t *, const pthread_attr_t *, void *(*)(void *), void *);
 static unsigned long refuse;
+static int all_from;
 static unsigned long asked;
 static long left;
 static unsigned long begun;
@@ -33,7 +35,9 @@ static void *kept[64];
 __attribute__((constructor)) static void begin(void)
 {
     create = dlsym(RTLD_NEXT, "pthread_create");
-    refuse = strtoul(getenv("REFUSE"), NULL, 10);
+    char *rest;
+    refuse = strtoul(getenv("REFUSE"), &rest, 10);
+    all_from = *rest == '+';
     told = atoi(getenv("REFUSED"));
     asked = 0;
     left = 0;
@@ -56,9 +60,12 @@ void _exit(int status)
     __builtin_unreachable();
 }
 
-static int is_refused(void)
+static int is_refused(size_t size)
 {
-    return __atomic_add_fetch(&asked, 1, __ATOMIC_SEQ_CST) == refuse;
+    unsigned long number = __atomic_add_fetch(&asked, 1, __ATOMIC_SEQ_CST);
+    if (size >= 1 << 20)
+        __atomic_store_n(&all_from, 0, __ATOMIC_SEQ_CST);
+    return number == refuse || (number > refuse && __atomic_load_n(&all_from, __ATOMIC_SEQ_CST));
 }
 
 static int is_exchanged(void **place, void *old, void *new)
@@ -90,22 +97,22 @@ static void *none(void)
 
 void *malloc(size_t size)
 {
-    return is_refused() ? none() : taken(__libc_malloc(size));
+    return is_refused(size) ? none() : taken(__libc_malloc(size));
 }
 
 void *calloc(size_t count, size_t size)
 {
-    return is_refused() ? none() : taken(__libc_calloc(count, size));
+    return is_refused(count * size) ? none() : taken(__libc_calloc(count, size));
 }
 
 void *aligned_alloc(size_t alignment, size_t size)
 {
-    return is_refused() ? none() : taken(__libc_memalign(alignment, size));
+    return is_refused(size) ? none() : taken(__libc_memalign(alignment, size));
 }
 
 void *realloc(void *block, size_t size)
 {
-    if (is_refused())
+    if (is_refused(size))
         return none();
     void *moved = __libc_realloc(block, size);
     return block == NULL ? taken(moved) : moved;
@@ -125,7 +132,7 @@ static long pages(size_t size)
 
 void *mmap(void *at, size_t size, int protection, int flags, int file, off_t place)
 {
-    if (is_refused()) {
+    if (is_refused(size)) {
         none();
         return MAP_FAILED;
     }
@@ -145,7 +152,7 @@ int munmap(void *room, size_t size)
 
 int pthread_create(pthread_t *thread, const pthread_attr_t *attributes, void *(*start)(void *), void *argument)
 {
-    if (is_refused())
+    if (is_refused(0))
         return EAGAIN;
     starts_thread = 1;
     int error = create(thread, attributes, start, argument);

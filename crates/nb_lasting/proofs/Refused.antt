@@ -125,7 +125,7 @@ kept-map before after (inl same) = ap (λ (h : HandleOf). h.map) same
 kept-map before after (inr (same, reads)) = same
 
 -- a handle that was to be made anew has as many seats still
-kept-long : (before after : HandleOf) → IsKept before after
+pub kept-long : (before after : HandleOf) → IsKept before after
     → length (seats_of after) ≡ length (seats_of before)
 kept-long before after kept =
     sym (length-zip HasReadOn (seats_of before) (seats_of after) (kept-read before after kept))

@@ -39,6 +39,16 @@ impl From<OutOfMemory> for GrowFault {
     }
 }
 
+impl From<OutOfMemory> for WriteFault {
+    ghost use Rattle.nb_lasting.specs.declared.faults.WriteFault.TheVariants.{OutOfMemory};
+
+    ghost from_gives = { λ _ fault. fault ≡ OutOfMemory };
+
+    fn from(_refused: OutOfMemory) -> WriteFault {
+        WriteFault::OutOfMemory
+    }
+}
+
 impl From<GrowFault> for WriteFault {
     ghost use Rattle.nb_lasting.specs.Lasting.{as_write_fault};
 

@@ -1,15 +1,14 @@
 //! All handles of a map, each with one seat, are made one, which is counted or made anew, and
 //! split again.
-ghost use Rattle.std.specs.Prelude.{[], Err, IfErr, IfOk, ℕ, length, map, vec_capacity, ◌<◌, ◌≡◌, ◌≤◌};
+ghost use Rattle.std.specs.Prelude.{[], Err, IfErr, IfOk, length, map, vec_capacity, ◌<◌, ◌≡◌, ◌≤◌};
 ghost use Rattle.nb_core.specs.declared.calls.Call.TheVariants as call;
-ghost use Rattle.nb_map.specs.Handles.{HandleOf, IsSameMap, IsWhole, handle_on, seats_of};
+ghost use Rattle.nb_map.specs.Handles.{HandleOf, IsWhole, handle_on, seats_of};
 ghost use Rattle.nb_map.specs.Renewing.{HasRenewed, HasTooMany};
-ghost use Rattle.nb_map.specs.Settling.{HaveSettled};
 ghost use Rattle.nb_map.specs.declared.faults.RenewFault.TheVariants as renew_fault;
 ghost use Rattle.nb_lasting.specs.Gathered.{AreSingle, HasWrittenBy, IsPartedAnew, IsPartedCounted, IsRested, seats_of_each};
 
 use nb_core::{Change, Key, Reply, Shape, Want};
-use nb_map::{Handle, PutFault, RenewFault, SettleFault, SplitFault};
+use nb_map::{Handle, PutFault, RenewFault, SettleFault, SettlingRoom, SplitFault};
 use std::alloc::Global;
 use std::sync::Wait;
 
@@ -56,59 +55,47 @@ fn split_handle<R: Wait>(rt: &R, whole: Handle, room: Vec<Handle>) -> Vec<Handle
     unreachable!()
 }
 
-/// All seats learn of all calls. It waits for the memory for four small vectors.
-fn settle<R: Wait>(rt: &R, alloc: Global, whole: &mut Handle)
-    requires whole { IsWhole whole.old }
-    ensures settled { (size : ℕ)
-        × HaveSettled whole.old.map (seats_of whole.old) (seats_of whole.new) size }
-    ensures map { IsSameMap whole.old whole.new }
-{
-    for _ in rt.forever() {
-        match whole.settle(alloc) {
-            Ok(_) => return,
-            Err(SettleFault::OutOfMemory) => {}
-            Err(SettleFault::NotAll) => unreachable!(),
-        }
-    }
-    unreachable!()
-}
-
 /// A new map in place of this one, of which the handle is then. Where that is refused it is of the
-/// same map, and all its seats know what the refused renewal has read.
-fn renew_or_settle<R: Wait>(
-    rt: &R,
+/// same map, and all its seats, which settle in this room, know what the refused renewal has read.
+fn renew_or_settle(
     alloc: Global,
     whole: &mut Handle,
+    settling: SettlingRoom,
     shape: Shape,
 ) -> Result<(), RenewFault>
     requires whole { IsWhole whole.old }
+    requires settling { length (seats_of whole.old) ≤ settling }
     ensures renewed { IfOk result (λ done. HasRenewed shape whole.old whole.new) }
     ensures rested { IfErr result (λ refused. IsRested whole.old whole.new) }
     ensures full { result ≡ Err renew_fault.Full → HasTooMany shape whole.old }
 {
     let renewed = whole.renew(alloc, shape);
     if renewed.is_err() {
-        settle(rt, alloc, whole);
+        let Ok(_) = whole.settle_in(settling) else {
+            unreachable!();
+        };
     }
     renewed
 }
 
 /// Handles of a new map in place of these. Where that is refused they are of the same map, and all
-/// of them know what the refused renewal has read.
+/// of them, whose seats settle in this room, know what the refused renewal has read.
 pub(crate) fn renew_handles<R: Wait>(
     rt: &R,
     alloc: Global,
     handles: Vec<Handle>,
+    settling: SettlingRoom,
     shape: Shape,
 ) -> (Vec<Handle>, Result<(), RenewFault>)
     requires single { AreSingle handles.items }
     requires all { (single : AreSingle handles.items)
         → length handles.items ≡ single.shared.chain.shape.seats }
+    requires settling { length handles.items ≤ settling }
     requires seats { shape.seats ≡ length handles.items }
     ensures { IsPartedAnew shape handles.items result.0.items result.1 }
 {
     let (mut whole, room) = join_handles(handles);
-    let renewed = renew_or_settle(rt, alloc, &mut whole, shape);
+    let renewed = renew_or_settle(alloc, &mut whole, settling, shape);
     (split_handle(rt, whole, room), renewed)
 }
 

@@ -20,7 +20,7 @@ use crate::hall::Hall;
 use crate::shapes::{GREATEST, shape_for};
 use crate::shared::{Anew, Coming, Dealing, Row, Token, give_back, hold};
 use nb_core::{Change, Key, OutOfMemory, Reply, Shape, Want};
-use nb_map::{Handle, PutFault, RenewFault};
+use nb_map::{Handle, PutFault, RenewFault, SettlingRoom};
 use std::alloc::Global;
 use std::sync::Wait;
 use std::sync::atomic::Ordering;
@@ -222,9 +222,11 @@ fn renew_all<R: Wait>(
     hall: &Hall,
     token: &mut Token,
     handles: Vec<Handle>,
+    settling: SettlingRoom,
     shape: Shape,
 ) -> Result<(), RenewFault>
     requires table { token.old.table_id ≡ hall.now.table.shared.table_id }
+    requires settling { shape.seats ≤ settling }
     requires shape { shape.seats ≡ hall.now.table.shared.key.seats }
     requires room { HasSlots hall.now.table.shared.key.keys shape }
     requires seated { FitsLanes shape.seats token.old.me.0 }
@@ -240,7 +242,7 @@ fn renew_all<R: Wait>(
     ensures anew { OnOk result (token.new.me.0.map.chain.shape ≡ shape) }
     ensures full { result ≡ Err renew_fault.Full → HaveTooMany shape handles.items }
 {
-    let (handles, renewed) = renew_handles(rt, hall.alloc, handles, shape);
+    let (handles, renewed) = renew_handles(rt, hall.alloc, handles, settling, shape);
     hall.renewals
         .fetch_add(u64::from(renewed.is_ok()), Ordering::SeqCst);
     deal_renewed(&hall.table.shared, token, handles);
@@ -255,10 +257,12 @@ pub(crate) fn renew_counted<R: Wait>(
     hall: &Hall,
     token: &mut Token,
     handles: Vec<Handle>,
+    settling: SettlingRoom,
     own: usize,
 ) -> Result<(), GrowFault>
     requires table { token.old.table_id ≡ hall.now.table.shared.table_id }
     requires own { own < hall.now.table.shared.key.seats }
+    requires settling { hall.now.table.shared.key.seats ≤ settling }
     requires guest { token.old.me.0.guest ≡ Some own }
     requires replayed { IsReplayed (log_of token.old.me.0.seen) }
     requires seated { FitsLanes hall.now.table.shared.key.seats token.old.me.0 }
@@ -286,7 +290,7 @@ pub(crate) fn renew_counted<R: Wait>(
     }
     let keys = (size as usize).saturating_mul(2).max(hall.least);
     let shape = shape_for(keys, hall.table.slot_count());
-    match renew_all(rt, hall, token, handles, shape) {
+    match renew_all(rt, hall, token, handles, settling, shape) {
         Ok(()) => Ok(()),
         Err(RenewFault::Full) => unreachable!(),
         Err(_) => Err(GrowFault::OutOfMemory),
@@ -313,12 +317,14 @@ pub(crate) fn renew_through<R: Wait>(
     ensures called { HasCalledIn own token.old.me.0 token.new.me.0 [] }
 {
     let row = &hall.table.shared;
-    let handles = take_all_handles(rt, row, token, hall.alloc, hall.table.slot_count())?;
+    let seats = hall.table.slot_count();
+    let settling = SettlingRoom::for_seats(hall.alloc, seats)?;
+    let handles = take_all_handles(rt, row, token, hall.alloc, seats)?;
     if hall.renewals.load(Ordering::SeqCst) != renewals {
         deal_all(row, token, handles);
         return Ok(());
     }
-    renew_counted(rt, hall, token, handles, own)
+    renew_counted(rt, hall, token, handles, settling, own)
 }
 
 /// Makes a write that found the map full, by the guest's own handle while all others are held; or
@@ -346,13 +352,12 @@ pub(crate) fn write_or_renew<R: Wait>(
         (call.Write key want.now change.now) result }
 {
     let row = &hall.table.shared;
-    let Ok(mut handles) = take_all_handles(rt, row, token, hall.alloc, hall.table.slot_count())
-    else {
-        return Err(WriteFault::OutOfMemory);
-    };
+    let seats = hall.table.slot_count();
+    let settling = SettlingRoom::for_seats(hall.alloc, seats)?;
+    let mut handles = take_all_handles(rt, row, token, hall.alloc, seats)?;
     let reply = write_by(&mut handles, own, key, want, change);
     if found_full(&reply) {
-        renew_counted(rt, hall, token, handles, own)?;
+        renew_counted(rt, hall, token, handles, settling, own)?;
         return Ok(None);
     }
     all_home(row, token, handles, own);

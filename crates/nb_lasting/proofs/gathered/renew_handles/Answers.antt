@@ -6,6 +6,12 @@ use Rattle.nb_lasting.proofs.gathered.renew_handles.Goals as goal
 
 pub renew_or_settle-renewed-requires : goal.renew_or_settle-renewed-requires
 renew_or_settle-renewed-requires g c = record {
+  settling =
+      omega (
+        arith,
+        ap length c.join_handles-whole.ensures.seats ∙ length-each c.args.handles.items,
+        c.requires.settling,
+      );
   whole = ap length c.join_handles-whole.ensures.seats ∙ length-each c.args.handles.items
       ∙ c.requires.all c.requires.single
       ∙ ap (λ (m : MapOf). m.chain.shape.seats)

@@ -1,4 +1,4 @@
-use Rattle.std.proofs.Common.{◌∙◌, ◌≤◌, ap, length, subst, sym}
+use Rattle.std.proofs.Common.{◌∙◌, ◌≤◌, ap, arith, length, subst, sym}
 use Rattle.nb_map.specs.Maps.{MapOf}
 use Rattle.nb_lasting.proofs.Dealt.{all-of-map, begun-in, deals, done_ok, still-single}
 use Rattle.nb_lasting.proofs.Renewed.{begun-as}
@@ -15,6 +15,7 @@ renew_handles-handles-requires g c =
       all = all-of-map c.args.shape.seats c.args.token.now.me c.args.handles.items
           (subst (λ n. 1 ≤ n) (sym seats) c.args.hall.now.some) c.requires.seated c.requires.holds;
       seats = sym c.requires.holds.still.held.count;
+      settling = omega (arith, c.requires.holds.still.held.count, c.requires.settling);
     }
 
 pub deal_renewed-requires : goal.deal_renewed-requires

@@ -1,4 +1,4 @@
-use Rattle.std.proofs.Common.{◌∙◌, ap, arith, inl, inr, subst}
+use Rattle.std.proofs.Common.{◌∙◌, ap, arith, inl, inr, refl, subst}
 use Rattle.std.specs.Prelude.{Option}
 use Rattle.atomic_table.specs.Table.{Me}
 use Rattle.nb_map.specs.Handles.{HandleOf}
@@ -11,14 +11,14 @@ use Rattle.nb_lasting.proofs.renewing.renew_through.Goals as goal
 
 pub deal_all-requires-clause-holds : goal.deal_all-requires-clause-holds
 deal_all-requires-clause-holds g c =
-    as-held c.slot_count.result c.take_all_handles.new.token.me c.in_ok-handles.handles.items
+    as-held c.slot_count-seats.result c.take_all_handles.new.token.me c.in_ok-handles.handles.items
     c.in_ok-handles.ensures.holds
 
 pub renew_counted-requires-clause-holds : goal.renew_counted-requires-clause-holds
 renew_counted-requires-clause-holds g c =
     subst (λ n. HoldsStill n c.take_all_handles.new.token.me c.in_ok-handles.handles.items)
-    (c.slot_count.ensures ∙ c.args.hall.now.slots)
-    (held-still c.slot_count.result c.take_all_handles.new.token.me c.in_ok-handles.handles.items
+    (c.slot_count-seats.ensures ∙ c.args.hall.now.slots)
+    (held-still c.slot_count-seats.result c.take_all_handles.new.token.me c.in_ok-handles.handles.items
     c.in_ok-handles.ensures.holds)
 
 pub returns-then-load-renewals-clause-round : goal.returns-then-load-renewals-clause-round
@@ -26,9 +26,9 @@ returns-then-load-renewals-clause-round g c =
     inr (
       c.in_ok-handles.handles.items,
       c.take_all_handles.new.token.me.0.account,
-      taken-all (hall_of c.args.hall.now) c.slot_count.result c.args.token.now.me.0.account
+      taken-all (hall_of c.args.hall.now) c.slot_count-seats.result c.args.token.now.me.0.account
           c.take_all_handles.new.token.me c.in_ok-handles.handles.items
-          (c.slot_count.ensures ∙ c.args.hall.now.slots) c.in_ok-handles.ensures.holds
+          (c.slot_count-seats.ensures ∙ c.args.hall.now.slots) c.in_ok-handles.ensures.holds
           c.in_ok-handles.ensures.taken,
       inl (inl c.deal_all.ensures.account),
     )
@@ -38,17 +38,20 @@ returns-clause-round g c =
     inr (
       c.in_ok-handles.handles.items,
       c.take_all_handles.new.token.me.0.account,
-      taken-all (hall_of c.args.hall.now) c.slot_count.result c.args.token.now.me.0.account
+      taken-all (hall_of c.args.hall.now) c.slot_count-seats.result c.args.token.now.me.0.account
           c.take_all_handles.new.token.me c.in_ok-handles.handles.items
-          (c.slot_count.ensures ∙ c.args.hall.now.slots) c.in_ok-handles.ensures.holds
+          (c.slot_count-seats.ensures ∙ c.args.hall.now.slots) c.in_ok-handles.ensures.holds
           c.in_ok-handles.ensures.taken,
-      back-by c.renew_counted.result (hall_of c.args.hall.now) c.args.own c.slot_count.result
+      back-by c.renew_counted.result (hall_of c.args.hall.now) c.args.own c.slot_count-seats.result
           c.take_all_handles.new.token.me c.in_ok-handles.handles.items
           c.renew_counted.new.token.me.0.account
-          (omega (arith, c.slot_count.ensures, c.args.hall.now.slots, c.requires.own))
+          (omega (arith, c.slot_count-seats.ensures, c.args.hall.now.slots, c.requires.own))
           c.in_ok-handles.ensures.holds c.renew_counted.ensures.made
           c.renew_counted.ensures.still,
     )
+
+pub returns-in_err-settling-clause-round : goal.returns-in_err-settling-clause-round
+returns-in_err-settling-clause-round g c = inl refl
 
 pub returns-in_err-handles-clause-round : goal.returns-in_err-handles-clause-round
 returns-in_err-handles-clause-round g c =

@@ -2,6 +2,7 @@
 //! refused.
 ghost use Rattle.std.specs.Prelude.{All, ◌≡◌};
 
+use super::asks_for_much;
 use nb_core::{Key, Num, OutOfMemory};
 use nb_lasting::{GrowFault, Guest, SharedLasting};
 use std::alloc::Global;
@@ -39,6 +40,7 @@ fn opened<R: Abort>(rt: &R, alloc: Global) -> (SharedLasting, Vec<Guest>)
     if let Ok(opened) = SharedLasting::open(alloc, 2, 0) {
         return opened;
     }
+    asks_for_much(alloc);
     let Ok(opened) = SharedLasting::open(alloc, 2, 0) else {
         panic!(rt; "memory")
     };
@@ -46,20 +48,21 @@ fn opened<R: Abort>(rt: &R, alloc: Global) -> (SharedLasting, Vec<Guest>)
 }
 
 /// A key comes that isn't there. Where that is refused, it comes again.
-fn come<R: Wait + Abort>(rt: &R, guest: &mut Guest, key: Key)
+fn come<R: Wait + Abort + AllocGlobal>(rt: &R, guest: &mut Guest, key: Key)
     ensures { guest.new.of ≡ guest.old.of }
 {
     let one = Num::from(1_u32);
     let mut found = guest.put_if_absent(rt, key, one);
     if found == Err(GrowFault::OutOfMemory) {
         assert!(rt; guest.get(rt, key).is_none());
+        asks_for_much(rt.alloc());
         found = guest.put_if_absent(rt, key, one);
     }
     assert!(rt; found == Ok(None));
 }
 
 /// A key of the guest's own comes, and the tenth before it goes, if there is one.
-fn pass<R: Wait + Abort>(rt: &R, guest: &mut Guest, word: u32)
+fn pass<R: Wait + Abort + AllocGlobal>(rt: &R, guest: &mut Guest, word: u32)
     ensures { guest.new.of ≡ guest.old.of }
 {
     let own = (guest.number() % 2) as u32;
@@ -70,7 +73,7 @@ fn pass<R: Wait + Abort>(rt: &R, guest: &mut Guest, word: u32)
 }
 
 /// A thousand keys of the guest's own come and go.
-fn come_and_go<R: Wait + Abort>(rt: &R, guest: &mut Guest, first: u32)
+fn come_and_go<R: Wait + Abort + AllocGlobal>(rt: &R, guest: &mut Guest, first: u32)
     ensures { guest.new.of ≡ guest.old.of }
 {
     for n in 0..1000_u32 {
@@ -80,7 +83,7 @@ fn come_and_go<R: Wait + Abort>(rt: &R, guest: &mut Guest, first: u32)
 
 /// Both guests work, each in a thread of its own. How many keys there are then: where that is refused, it
 /// is asked again.
-fn worked<R: Threads + Sync + Wait + Abort>(
+fn worked<R: Threads + Sync + Wait + Abort + AllocGlobal>(
     rt: &R,
     shared: &mut SharedLasting,
     guests: &mut [Guest],
@@ -100,11 +103,12 @@ fn worked<R: Threads + Sync + Wait + Abort>(
     if let Ok(size) = shared.settle(rt, guests) {
         return size;
     }
+    asks_for_much(rt.alloc());
     shared.settle(rt, guests).expect(rt, "memory")
 }
 
 /// Keys come and go on two threads, and are counted, while the map is made anew. Whichever one request for
-/// memory or a thread is refused, no call is lost.
+/// memory or a thread is refused, or all from that one on, no call is lost.
 #[test]
 fn passing_keys_refused_memory(rt: HostRuntime) {
     let (mut shared, mut guests) = opened(&rt, rt.alloc());

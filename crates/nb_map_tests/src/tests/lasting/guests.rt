@@ -1,6 +1,7 @@
 //! Guests that share a map without an end, each in a thread of its own, through dozens of renewals.
 ghost use Rattle.std.specs.Prelude.{All, ◌≡◌, ◌≤◌};
 
+use super::asks_for_much;
 use nb_core::{Key, Num, VALUE_MAX};
 use nb_lasting::{GrowFault, Guest, SharedLasting, WriteFault};
 use nb_map::{Ended, SettleFault};
@@ -18,6 +19,7 @@ fn opened<R: Abort>(rt: &R, alloc: Global, guests: usize) -> (SharedLasting, Vec
         if let Ok(opened) = SharedLasting::open(alloc, guests, 0) {
             return opened;
         }
+        asks_for_much(alloc);
     }
     panic!(rt; "memory")
 }
@@ -219,12 +221,15 @@ fn calls_by_name<R: Wait + Abort>(rt: &R, guest: &mut Guest)
     assert!(rt; guest.remove(rt, key) == Some(two));
 }
 
-/// Whichever one request for memory is refused, the map goes on: the write that was refused is made
-/// again (`rt try --test --fail-alloc N -- refused_memory`).
+/// Whichever one request for memory is refused, or all from that one on, each call ends, and the map
+/// goes on: the call that was refused is made again (`rt try --test --fail-alloc N -- refused_memory`).
 #[test]
 fn guests_refused_memory(rt: HostRuntime) {
     let (mut shared, mut guests) = opened(&rt, rt.alloc(), 2);
     let size = shared.settle(&rt, guests.as_mut_slice());
+    if size == Err(SettleFault::OutOfMemory) {
+        asks_for_much(rt.alloc());
+    }
     let again = shared.settle(&rt, guests.as_mut_slice());
     assert!(rt; size == Ok(0) || (size == Err(SettleFault::OutOfMemory) && again == Ok(0)));
     thread::for_each_mut(
@@ -239,15 +244,19 @@ fn guests_refused_memory(rt: HostRuntime) {
 }
 
 /// Asks for the size and puts a hundred keys, and again where memory was refused.
-fn tries_again<R: Wait + Abort>(rt: &R, guest: &mut Guest)
+fn tries_again<R: Wait + Abort + AllocGlobal>(rt: &R, guest: &mut Guest)
     ensures { guest.new.of ≡ guest.old.of }
 {
-    assert!(rt; guest.size(rt).is_ok() || guest.size(rt).is_ok());
+    if guest.size(rt).is_err() {
+        asks_for_much(rt.alloc());
+        assert!(rt; guest.size(rt).is_ok());
+    }
     let own = (guest.number() % 2) as u32;
     for word in 0..100_u32 {
         let key = Key::from(2 * word + own);
         let mut found = guest.put(rt, key, Num::from(word));
         if found == Err(GrowFault::OutOfMemory) {
+            asks_for_much(rt.alloc());
             found = guest.put(rt, key, Num::from(word));
         }
         assert!(rt; found == Ok(None));
