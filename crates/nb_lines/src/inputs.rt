@@ -99,14 +99,12 @@ impl<'f, 'n, I: Read> Inputs<'f, 'n, I> {
         if name.as_str() == STANDARD_INPUT {
             return self.standard.read(buf);
         }
+        if self.file.is_none() {
+            self.file = Some(fs::open(self.files, name.as_str())?);
+        }
         match self.file.as_mut() {
             Some(file) => file.read(buf),
-            None => {
-                let mut file = fs::open(self.files, name.as_str())?;
-                let count = file.read(buf)?;
-                self.file = Some(file);
-                Ok(count)
-            }
+            None => Ok(0),
         }
     }
 }
