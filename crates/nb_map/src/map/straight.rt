@@ -52,6 +52,10 @@ impl Map {
         let home = write_home(&self.chain, &mut seat.chain, &call, &mut left, &mut NoPause);
         match home.joined_of(&change) {
             AtHome::Made(reply) => {
+                // a put may have left what was there as it was
+                if left == 0 {
+                    spin();
+                }
                 self.count(&mut seat.count, &change, &reply);
                 Straight::Made(reply)
             }

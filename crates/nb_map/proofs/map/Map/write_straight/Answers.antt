@@ -26,14 +26,14 @@ made c limit some =
     (subst₂ IsMine (sym c.self.view_is) (sym c.seat.view_is) c.requires.own) c.in-Made.reply
     (c.in-Made.ensures _ _ _ _ _ c.write_home-home.ensures.tried) c.count.ensures)
 
-pub returns-in-Made-clause-tries : goal.returns-in-Made-clause-tries
-returns-in-Made-clause-tries c =
-    made (goal.at.returns-in-Made-clause-tries c).After-count (Tries c.args.tries.now)
+pub returns-after-left-eq0-clause-tries : goal.returns-after-left-eq0-clause-tries
+returns-after-left-eq0-clause-tries c =
+    made (goal.at.returns-after-left-eq0-clause-tries c).After-count (Tries c.args.tries.now)
     (λ passed. omega (arith, c.requires.some))
 
-pub returns-in-Made-clause-waits : goal.returns-in-Made-clause-waits
-returns-in-Made-clause-waits c =
-    made (goal.at.returns-in-Made-clause-waits c).After-count Unlimited (λ passed. omega arith)
+pub returns-after-left-eq0-clause-waits : goal.returns-after-left-eq0-clause-waits
+returns-after-left-eq0-clause-waits c =
+    made (goal.at.returns-after-left-eq0-clause-waits c).After-count Unlimited (λ passed. omega arith)
 
 -- ---- what is there is left as it is
 
@@ -53,14 +53,14 @@ left-alone c limit some =
     (subst₂ IsMine (sym c.self.view_is) (sym c.seat.view_is) c.requires.own) c.in-Left.reply
     left.0 (uncounted (net_of_call write c.in-Left.reply) count count left.1 refl))
 
-pub returns-after-left-eq0-clause-tries : goal.returns-after-left-eq0-clause-tries
-returns-after-left-eq0-clause-tries c =
-    left-alone (goal.at.returns-after-left-eq0-clause-tries c).In-Left (Tries c.args.tries.now)
+pub returns-after-left-eq0-2-clause-tries : goal.returns-after-left-eq0-2-clause-tries
+returns-after-left-eq0-2-clause-tries c =
+    left-alone (goal.at.returns-after-left-eq0-2-clause-tries c).In-Left (Tries c.args.tries.now)
     (λ passed. omega (arith, c.requires.some))
 
-pub returns-after-left-eq0-clause-waits : goal.returns-after-left-eq0-clause-waits
-returns-after-left-eq0-clause-waits c =
-    left-alone (goal.at.returns-after-left-eq0-clause-waits c).In-Left Unlimited
+pub returns-after-left-eq0-2-clause-waits : goal.returns-after-left-eq0-2-clause-waits
+returns-after-left-eq0-2-clause-waits c =
+    left-alone (goal.at.returns-after-left-eq0-2-clause-waits c).In-Left Unlimited
     (λ passed. omega arith)
 
 -- ---- it is refused
