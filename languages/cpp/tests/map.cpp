@@ -3,6 +3,7 @@
 
 #include "../../c/tests/expect.h"
 
+#include <atomic>
 #include <algorithm>
 #include <csignal>
 #include <map>
@@ -416,6 +417,7 @@ template <class Call> void interrupts(samvolip::map &map, samvolip::map &other, 
         __writeeflags(__readeflags() | trap_flag);
         const bool adds_one = call(map);
         __writeeflags(__readeflags() & ~trap_flag);
+        std::atomic_signal_fence(std::memory_order_seq_cst); // what the handler counts is read after its last time
         is_over = steps <= wanted;
         adds += made - before + adds_one;
         EXPECT(map.get(7).value() == adds && other.get(7).value() == 1000u);
