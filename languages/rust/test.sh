@@ -50,6 +50,7 @@ tells_a_race() {
 cat > "$made/unseen" << 'RACES'
 race:<alloc::sync::Weak<*as core::ops::drop::Drop>::drop
 race:<alloc::sync::Arc<std::thread::thread::Inner
+race:<alloc::sync::Arc<std::thread::scoped::ScopeData
 race:std::sync::mpmc::waker::
 race:test::event::CompletedTest
 race:test::run_test::{closure#0}>>>

@@ -3,8 +3,8 @@
 
 #include "../../c/tests/expect.h"
 
-#include <atomic>
 #include <algorithm>
+#include <atomic>
 #include <csignal>
 #include <map>
 #include <set>
