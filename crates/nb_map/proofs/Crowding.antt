@@ -242,13 +242,13 @@ module _ (p : Plan) (plan : IsPlan p) where
 -- ---- a seat's own events
 
 -- the seat of a legal history's event is one of the plan's
-seats-below : (p : Plan) (h : List Event) → IsLegal p h → All (λ e. seat_of_event e < p.seats) h
+pub seats-below : (p : Plan) (h : List Event) → IsLegal p h → All (λ e. seat_of_event e < p.seats) h
 seats-below p [] legal = All-nil (λ (e : Event). seat_of_event e < p.seats)
 seats-below p (e ∷ h) legal = All-cons (λ (e : Event). seat_of_event e < p.seats) e h
     (seat-in_range p e legal.1) (seats-below p h legal.0)
 
 -- what holds of each seat's own events holds of all
-each-own :
+pub each-own :
     (Q : Event → Type 0) (n : ℕ) (h : List Event) → All (λ e. seat_of_event e < n) h
     → ((s : ℕ) → s < n → All Q (own_events s h)) → All Q h
 each-own Q n [] below own = All-nil Q

@@ -12,6 +12,9 @@ mod Earlier
 mod Entries
 mod Extended
 mod Filled
+mod FirstNumber
+mod FirstPuts
+mod Firsts
 mod Glanced
 mod Held
 mod Home

@@ -20,7 +20,7 @@ use Rattle.nb_map.specs.inside.Climbing.{IsAt, IsSpent, rung_at}
 use Rattle.nb_map.specs.inside.Waiting.{HasBeenTold, HasLookedInVain}
 
 -- any call may begin in any table up to the top
-at-up-to :
+pub at-up-to :
     (chain : ChainOf) {seat : SeenBy} (g : ℕ) → IsOwn chain seat → g ≤ (seen_by chain.shape seat).top
     → (call : Call) → IsAt chain call seat (rung_at g)
 at-up-to chain {seat} g own low call =

@@ -56,7 +56,7 @@ may-as p before after call call' same fills (Claim s g i k) may = (
 may-as p before after call call' same fills (Install s g k) may = (may.0 ∙ sym same, fills may.1)
 may-as p before after call call' same fills e may = may
 
-made-as :
+pub made-as :
     {p : Plan} {call : Call} {before after : SeenBy} {made : List (Call × Reply)} {most : ℕ}
     (call' : Call) → key_of_call call' ≡ key_of_call call → (Fills call → Fills call')
     → HasMade p call before after made most → HasMade p call' before after made most

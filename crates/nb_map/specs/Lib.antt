@@ -9,6 +9,7 @@ pub mod Steps
 pub mod Handles
 pub mod Updating
 pub mod Compound
+pub mod FirstPut
 pub mod Walks
 pub mod Bulk
 pub mod Ending

@@ -8,3 +8,4 @@ pub mod Writing
 pub mod Walking
 pub mod Filling
 pub mod Waiting
+pub mod Firsts

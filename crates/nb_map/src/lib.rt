@@ -18,7 +18,7 @@ pub use faults::{
     SplitFault,
 };
 pub use handle::{Handle, HandleWalk};
-pub use map::{Ended, Map, Seat, SettlingRoom, Walk, WalkPlace};
+pub use map::{Ended, FirstPut, Map, Seat, SettlingRoom, Walk, WalkPlace};
 pub use nb_core::NotAll;
 pub use occupancy::{Occupancy, SAMPLE};
 pub use steps::walk::Place;

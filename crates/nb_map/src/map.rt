@@ -10,6 +10,7 @@ mod below;
 mod bulk;
 mod compound;
 mod ended;
+mod first;
 mod fullness;
 mod general;
 mod listing;
@@ -23,6 +24,7 @@ mod walks;
 
 use crate::steps::get::get_in;
 pub use ended::Ended;
+pub use first::FirstPut;
 use nb_core::{Key, Num, OutOfMemory, SeatRoom, Shape};
 use nb_count::{CountSeat, Counter};
 use nb_table::{Chain, ChainSeat};

@@ -4,6 +4,7 @@
 
 pub(crate) mod claim;
 pub(crate) mod climb;
+pub(crate) mod first;
 pub(crate) mod get;
 pub(crate) mod pause;
 pub(crate) mod rung;

@@ -1,10 +1,9 @@
 -- What the claims until a moment are of, where each seat's are known of a later moment.
-use Rattle.std.proofs.Common.{◌≡◌, ◌≢◌, ◌∙◌, ◌==◌, ◌<◌, ◌≤◌, ◌-◌, Bool, true, false, cond, ℕ, zero, suc, List, [], ◌∷◌, ◌++◌, ap, sym, subst, refl, inl, inr, arith}
+use Rattle.std.proofs.Common.{◌≡◌, ◌≢◌, ◌∙◌, ◌==◌, ◌<◌, ◌≤◌, ◌-◌, ℕ, zero, suc, List, [], ◌∷◌, ◌++◌, ap, sym, subst, refl, inl, inr, arith}
 use Rattle.std.specs.List.{All}
-use Rattle.std.proofs.lemmas.Bool.{eq-eqb}
 use Rattle.std.proofs.lemmas.List.Elements.{All-cons, All-filter, All-head, All-nil, All-same, All-tail, All-weaker, filter-append}
 use Rattle.nb_core.proofs.Seating.{All-right}
-use Rattle.nb_core.proofs.Theorems.{beginnings_are_legal, seat-in_range, seen_lasts, stays}
+use Rattle.nb_core.proofs.Theorems.{beginnings_are_legal, seen_lasts, stays}
 use Rattle.nb_core.specs.History.{IsLegal, seat_of_event}
 use Rattle.nb_core.specs.Laws.{Lasts}
 use Rattle.nb_core.specs.Log.{IsBeginning}
@@ -15,44 +14,11 @@ use Rattle.nb_core.specs.declared.calls.Call.{Call}
 use Rattle.nb_core.specs.declared.events.Event.{Event}
 use Rattle.nb_core.specs.declared.events.Event.TheVariants.{Claim}
 use Rattle.nb_table.specs.Chains.{SeenBy, own_events}
-use Rattle.nb_map.proofs.Theorems.{crowded_by_calls}
+use Rattle.nb_map.proofs.Theorems.{crowded_by_calls, each-own, seats-below}
 use Rattle.nb_map.specs.Crowding.{HasAskedFor, HasAskedIn, IsClaimOf, IsFilled, others_filled}
 use Rattle.nb_runner.proofs.CallLemmas.{beginning-itself, beginning-more}
 
--- ---- events of each seat
-
--- the seat of a legal history's event is one of the plan's
-seats-below : (p : Plan) (h : List Event) → IsLegal p h → All (λ e. seat_of_event e < p.seats) h
-seats-below p [] legal = All-nil (λ (e : Event). seat_of_event e < p.seats)
-seats-below p (e ∷ h) legal = All-cons (λ (e : Event). seat_of_event e < p.seats) e h
-    (seat-in_range p e legal.1) (seats-below p h legal.0)
-
--- what holds of each seat's own events holds of all
-each-own :
-    (Q : Event → Type 0) (n : ℕ) (h : List Event) → All (λ e. seat_of_event e < n) h
-    → ((s : ℕ) → s < n → All Q (own_events s h)) → All Q h
-each-own Q n [] below own = All-nil Q
-each-own Q n (e ∷ h) below own =
-    All-cons Q e h (head (own (seat_of_event e) (All-head P e h below)))
-    (each-own Q n h (All-tail P e h below) (λ s less. rest s (own s less)))
-  where
-    P : Event → Type 0
-    P e = seat_of_event e < n
-
-    head : All Q (own_events (seat_of_event e) (e ∷ h)) → Q e
-    head all =
-        All-head Q e (own_events (seat_of_event e) h)
-        (All-same Q _ _
-        (ap (λ b. cond b (e ∷ own_events (seat_of_event e) h) (own_events (seat_of_event e) h))
-        (sym (eq-eqb (seat_of_event e) (seat_of_event e) refl))) all)
-
-    rest : (s : ℕ) → All Q (own_events s (e ∷ h)) → All Q (own_events s h)
-    rest s = of (seat_of_event e == s)
-      where
-        of : (b : Bool) → All Q (cond b (e ∷ own_events s h) (own_events s h))
-            → All Q (own_events s h)
-        of true all = All-tail Q e (own_events s h) all
-        of false all = all
+-- ---- more calls
 
 -- a claim is so of more calls
 claim-more :

@@ -2,14 +2,17 @@
 //! tries count as one.
 ghost use Rattle.std.specs.Prelude.{Option, max, unwrap_or, ℕ, ◌≡◌};
 ghost use Rattle.nb_core.specs.declared.calls.Call.TheVariants as call;
+ghost use Rattle.nb_core.specs.Plans.{generations_of};
+ghost use Rattle.nb_map.specs.FirstPut.{HasPutIfNew};
 ghost use Rattle.nb_map.specs.Handles.{KeepsRest};
 ghost use Rattle.nb_map.specs.NamedCalls.{add_below_of, add_of, exchange_of, put_below_of, put_if_absent_of, put_of, remove_below_of, remove_of};
 ghost use Rattle.nb_map.specs.Progress.{Tries};
 ghost use Rattle.nb_map.specs.Promises.{HasGot, HasWritten, found_or_refused, replied_or_refused};
 ghost use Rattle.nb_map.specs.Updating.{IsUpdate};
 
-use crate::faults::PutFault;
+use crate::faults::{Full, PutFault};
 use crate::handle::Handle;
+use crate::map::FirstPut;
 use nb_core::{Change, Key, Num, Reply, Want};
 
 impl Handle {
@@ -128,6 +131,16 @@ impl Handle {
         self.shared
             .map
             .try_remove_below(&mut self.seat, key, limit, tries.max(1))
+    }
+
+    /// Puts a number at a key that never had one in this map, which has one table:
+    /// `Map::put_if_new`, which waits for nobody.
+    pub fn put_if_new(&mut self, key: Key, number: Num) -> Result<FirstPut, Full>
+        requires one { generations_of self.old.map.chain.shape ≡ 1 }
+        ensures wrote { HasPutIfNew self.old.map key number self.old.seat self.new.seat result }
+        ensures rest { KeepsRest self.old self.new }
+    {
+        self.shared.map.put_if_new(&mut self.seat, key, number)
     }
 
     /// `Map::compare_exchange`.

@@ -48,6 +48,41 @@ impl Map {
         ensures { HasWritten self.now (call.Write key want change) seat.old seat.new (Tries tries)
             (replied_or_refused result) }
     {
+        // An arm for each change, in which it is known: so each is as short as a call by name.
+        match change {
+            Change::Put(number) => self.put_if_match_by(
+                seat,
+                key,
+                want,
+                Change::Put(number),
+                tries,
+            ),
+            Change::Add(number) => self.put_if_match_by(
+                seat,
+                key,
+                want,
+                Change::Add(number),
+                tries,
+            ),
+            Change::Remove => self.put_if_match_by(seat, key, want, Change::Remove, tries),
+        }
+    }
+
+    /// The same by a change that is known where it is called.
+    #[inline(always)]
+    fn put_if_match_by(
+        &self,
+        seat: &mut Seat,
+        key: Key,
+        want: Want,
+        change: Change,
+        tries: u32,
+    ) -> Result<Reply, PutFault>
+        requires own { IsMine self.now seat.old }
+        requires some { 1 ≤ tries }
+        ensures { HasWritten self.now (call.Write key want change) seat.old seat.new (Tries tries)
+            (replied_or_refused result) }
+    {
         // By reference, since Rattle's borrow checker covers no second move of these two.
         let (asked, made) = (&want, &change);
         let mut left = tries;

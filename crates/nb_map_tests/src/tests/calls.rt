@@ -104,6 +104,25 @@ const BELOW_A_LIMIT: [Row; 19] = [
     (6, TryPutBelow(1, 1), Nothing),
 ];
 
+/// A number is put only at a key that never had one: what was removed doesn't come back. A full table
+/// has no slot for another key.
+const NEW_KEYS: [Row; 14] = [
+    (0, PutIfNew(1), Nothing),
+    (0, PutIfNew(2), Was(1)),
+    (0, Remove, Was(1)),
+    (0, PutIfNew(3), Is(false)),
+    (0, Get, Nothing),
+    (0, Put(4), Nothing),
+    (0, PutIfNew(5), Was(4)),
+    (4, PutIfNew(6), Nothing),
+    (0, Estimate, Was(2)),
+    (1, Remove, Nothing),
+    (1, PutIfNew(7), Nothing),
+    (8, PutIfNew(8), Nothing),
+    (3, PutIfNew(9), FULL),
+    (8, PutIfNew(9), Was(8)),
+];
+
 /// A full table has no slot for another key, also where a key was removed, whose slot stays its
 /// own. A write that has nothing to replace isn't refused.
 const FULL_TABLE: [Row; 33] = [
@@ -188,7 +207,7 @@ const KEY_TWICE: [(u64, u64); 5] = [(0, 1), (1, 2), (2, 3), (3, 4), (0, 5)];
 
 /// Each call by a handle. `Percent` tells what part of the slots is taken; more looks at how full a
 /// map is are in `languages/c/tests/rows.c`.
-const STORIES: [Story; 9] = [
+const STORIES: [Story; 10] = [
     (
         (2, 2, 1, 1),
         &[],
@@ -197,6 +216,12 @@ const STORIES: [Story; 9] = [
     ),
     ((2, 2, 1, 1), &[], &CALLS_THAT_TRY, &[(1, 7), (2, 5)]),
     ((2, 2, 1, 1), &[], &BELOW_A_LIMIT, &[(5, VALUE_MAX), (6, 1)]),
+    (
+        (2, 1, 1, 1),
+        &[],
+        &NEW_KEYS,
+        &[(0, 4), (1, 7), (4, 6), (8, 8)],
+    ),
     (
         (2, 1, 1, 1),
         &[],

@@ -5,7 +5,7 @@ ghost use Rattle.nb_map.specs.Handles.{AreOfOneMap};
 use super::rows::Answer::*;
 use super::rows::Call::*;
 use nb_core::{Change, Key, Num, Reply, Shape, Want};
-use nb_map::{Ended, FullAfter, Handle, PutFault, RenewFault};
+use nb_map::{Ended, FirstPut, Full, FullAfter, Handle, PutFault, RenewFault};
 use std::alloc::Global;
 use std::process::Abort;
 use std::sync::Wait;
@@ -35,6 +35,8 @@ pub(super) enum Call {
     TryAddBelow(u64, u64),
     TryRemoveBelow(u64),
     PutBelow(u64, u64),
+    /// A put at a key that never had a number, in a map of one table.
+    PutIfNew(u64),
     Exchange(Option<u32>, Option<u32>),
     OneMore(u32),
     Max(u64, u32),
@@ -151,7 +153,20 @@ fn tries_below<R: Wait + Abort + AllocGlobal>(
             let want = Want::Below(number(rt, limit));
             replied(handle.put_if_match(at, want, Change::Put(number(rt, n)), 1))
         }
+        PutIfNew(n) => first(rt, handle, at, number(rt, n)),
         _ => Is(comes(rt, handle, call)),
+    }
+}
+
+/// Puts the number if the key never had one, in a map of one table. One that had one, and has none
+/// now, is answered by `Is(false)`.
+fn first<R: Abort>(rt: &R, handle: &mut Handle, at: Key, number: Num) -> Answer {
+    assert!(rt; handle.shape().generations() == 1);
+    match handle.put_if_new(at, number) {
+        Ok(FirstPut::Put) => Nothing,
+        Ok(FirstPut::Found(found)) => Was(found.get()),
+        Ok(FirstPut::Removed) => Is(false),
+        Err(Full) => FULL,
     }
 }
 

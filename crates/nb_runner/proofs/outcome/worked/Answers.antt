@@ -1,4 +1,3 @@
-use Rattle.nb_runner.specs.Outcomes.{lists_in}
 use Rattle.nb_runner.proofs.OutcomeLemmas.{IfOk-both, workers-mine}
 use Rattle.nb_runner.proofs.outcome.worked.Goals as goal
 
