@@ -1,7 +1,8 @@
 -- A guest counts the map with all handles, and gives them back.
 use Rattle.std.proofs.Common.{◌≡◌, ◌∙◌, ◌*◌, ◌<◌, ◌≤◌, ◌^◌, ℕ, List, [], Some, ap, length, refl, subst, sym, arith}
 use Rattle.std.specs.FinMap as numbers
-use Rattle.std.specs.Prelude.{IfOk, Ok, Option, Result, max}
+use Rattle.std.specs.Prelude.{Err, IfOk, Ok, Option, Result, max}
+use Rattle.std.specs.declared.alloc.AllocError.{AllocError as OutOfMemory}
 use Rattle.atomic_table.specs.Table.{Me}
 use Rattle.nb_core.specs.Log.{Entry, IsReplayed, Numbers, log_of, map_of_log}
 use Rattle.nb_core.specs.Meaning.{IsCrowded}
@@ -12,13 +13,12 @@ use Rattle.nb_core.specs.declared.events.Event.{Event}
 use Rattle.nb_core.specs.declared.shapes.TheConstants.{MAX_EXPONENT}
 use Rattle.nb_map.specs.Handles.{HandleOf}
 use Rattle.nb_map.specs.Maps.{MapOf}
-use Rattle.nb_map.specs.declared.faults.SettleFault.{SettleFault}
 use Rattle.nb_lasting.proofs.Dealt.{single-map, still-single, there_is}
 use Rattle.nb_lasting.proofs.Epochs.{goes_on}
-use Rattle.nb_lasting.proofs.Renewed.{AreCountedIn, counted-still, has-room-left}
+use Rattle.nb_lasting.proofs.Renewed.{AreCountedIn, HaveTooMany, counted-still, has-room-left}
 use Rattle.nb_lasting.proofs.Sharing.{current_here}
 use Rattle.nb_lasting.specs.Epochs.{HasGoneOnBy}
-use Rattle.nb_lasting.specs.Gathered.{HaveTooMany, IsPartedCounted}
+use Rattle.nb_lasting.specs.Gathered.{IsPartedCounted}
 use Rattle.nb_lasting.specs.Holding.{HasCalledIn, IsIdleGuest}
 use Rattle.nb_lasting.specs.Renewal.{AreHeld, AreStill, CanComeHome, HasBegunAs, HasRoomAnew, KnowOneLog, HoldsStill, IsFullAt, blanks, down}
 use Rattle.nb_lasting.specs.Visits.{HasMadeMapAnew, SharedOf, keys_known, least_anew}
@@ -38,12 +38,17 @@ pub if-ok : {A B : Type 0} (result : Result A B) (x : A) (P : A → Type 0) → 
     → P x
 if-ok result x P is holds = subst (λ r. IfOk r P) is holds
 
+pub ok-by : {A B : Type 0} (result : Result A B) (P : A → Type 0)
+    → ((x : A) → result ≡ Ok x → P x) → IfOk result P
+ok-by (Ok x) P each = each x refl
+ok-by (Err refused) P each = tt
+
 module _
     (n : ℕ) (me : Me (Option HandleOf) LaneView) (before after : List HandleOf) (some : 1 ≤ n)
     (few : n ≤ 256) (holds : HoldsStill n me before) where
   -- what a count makes of them, in the words of the token
   pub still-by :
-      (result : Result ℕ SettleFault) → IsPartedCounted before after result
+      (result : Result ℕ OutOfMemory) → IsPartedCounted before after result
       → (still : AreStill me.0.map me.0.filled me.0.past n holds.knew after)
       × IfOk result (AreCountedIn me.0.map still.know before after)
   still-by result is =
@@ -127,7 +132,7 @@ module _
       (home (log_of (still.know own)) (can-come-home still own guest below)))
 
   module _
-      (result : Result ℕ SettleFault) (is : IsPartedCounted before after result) (size : ℕ)
+      (result : Result ℕ OutOfMemory) (is : IsPartedCounted before after result) (size : ℕ)
       (counted : result ≡ Ok size) (own : ℕ) (guest : me.0.guest ≡ Some own) (below : own < n)
       (then : LaneView)
       (home : (whole : List Entry) → CanComeHome own whole (length after) me after
@@ -163,7 +168,7 @@ module _
 
   -- a shape for twice as many has room anew
   pub room-anew :
-      (result : Result ℕ SettleFault) (is : IsPartedCounted before after result) (size : ℕ)
+      (result : Result ℕ OutOfMemory) (is : IsPartedCounted before after result) (size : ℕ)
       → result ≡ Ok size → (own : ℕ) → me.0.guest ≡ Some own → own < n → (keys : ℕ)
       → (least : ℕ) → keys ≡ max (2 * size) least → (then : LaneView)
       → HasSlots keys then.map.chain.shape
@@ -183,7 +188,7 @@ module _
 
   -- so it is in the account
   pub made-anew :
-      (result : Result ℕ SettleFault) → IsPartedCounted before after result → (size : ℕ)
+      (result : Result ℕ OutOfMemory) → IsPartedCounted before after result → (size : ℕ)
       → result ≡ Ok size → (p : Plan) (keys : ℕ) (of : SharedOf) → keys ≡ max (2 * size) (least_anew of)
       → HasSlots keys p → p ≡ shape_made_for keys of.guests → (a b : Account) → HasBegunAs p after a b
       → HasMadeMapAnew of a b
@@ -207,7 +212,7 @@ module _
 
   -- all have one log
   pub one-log :
-      (result : Result ℕ SettleFault) → IsPartedCounted before after result → (size : ℕ)
+      (result : Result ℕ OutOfMemory) → IsPartedCounted before after result → (size : ℕ)
       → result ≡ Ok size → KnowOneLog after
   one-log result is size counted =
       let known = still-by result is in
@@ -217,7 +222,7 @@ module _
 
   -- else a new map has room
   pub room-left :
-      (result : Result ℕ SettleFault) (is : IsPartedCounted before after result) (size : ℕ)
+      (result : Result ℕ OutOfMemory) (is : IsPartedCounted before after result) (size : ℕ)
       → result ≡ Ok size → (p : Plan) (keys : ℕ) → size < 2 ^ MAX_EXPONENT → size ≤ keys
       → HasSlots keys p → HaveTooMany p after → ⊥
   room-left result is size counted p keys less fewer room many =

@@ -2,6 +2,7 @@
 use Rattle.std.proofs.Common.{◌≡◌, ◌≢◌, ◌∙◌, ◌+◌, ◌++◌, ◌<◌, ◌≤◌, ◌⊎◌, ℕ, zero, suc, List, [], ◌∷◌, All, Some, ap, inl, inr, length, length-append, refl, slice_get, subst, sym, arith}
 use Rattle.std.specs.Prelude.{Err, IfErr, IfOk, None, Ok, OnErr, OnOk, Option, Result, ⊤, unwrap_or}
 use Rattle.std.proofs.lemmas.Option.{slice_get_within}
+use Rattle.std.specs.declared.alloc.AllocError.{AllocError as OutOfMemory}
 use Rattle.atomic_table.specs.Table.{Me, rest}
 use Rattle.nb_core.specs.Log.{Entry, log_of}
 use Rattle.nb_core.specs.Plans.{Plan}
@@ -16,10 +17,9 @@ use Rattle.nb_lasting.specs.Epochs.{HasGoneOnBy}
 use Rattle.nb_lasting.specs.Closing.{HasGathered}
 use Rattle.nb_lasting.proofs.Giving.{CanDeal, CanGive, CanRenew}
 use Rattle.nb_lasting.specs.Holding.{IsIdleGuest}
-use Rattle.nb_map.specs.declared.faults.RenewFault.{RenewFault}
 use Rattle.nb_lasting.proofs.Refused.{renewed-all}
-use Rattle.nb_lasting.proofs.Renewed.{all-from, at-all}
-use Rattle.nb_lasting.specs.Gathered.{AreSingle, IsPartedAnew, IsSingle}
+use Rattle.nb_lasting.proofs.Renewed.{IsPartedAnew, all-from, at-all}
+use Rattle.nb_lasting.specs.Gathered.{AreSingle, IsSingle}
 use Rattle.nb_lasting.specs.Renewal.{AreHeld, AreRenewed, CanComeHome, CanDealAnew, CanDealBelow, HasBegunBy, HasBegunIn, KnowOneLog, HoldsBelow, HoldsStill, IsIdleToken, blanks, down}
 use Rattle.nb_lasting.specs.Shared.{Has, HasBegunAnew, HasDealt, HasGiven, HasTaken, Holds, IsCurrent, IsKnownOrHasSlots, IsLane, IsOfGuest, FitsLanes, KnowsIn, all_knew, as_guest, given, known_in, known_of, log_in, map_in, rest_outs, account_in, begun_in, times_out}
 use Rattle.nb_lasting.specs.Lasting.{HasSlots}
@@ -660,7 +660,7 @@ still-single n me handles some few holds =
 
 -- a map that was made anew has the slots of its shape, and one that was not is the same
 has-room :
-    (result : Result ⊤ RenewFault) (keys : ℕ) (p : Plan) (known m : MapOf) → HasSlots keys p
+    (result : Result ⊤ OutOfMemory) (keys : ℕ) (p : Plan) (known m : MapOf) → HasSlots keys p
     → IfOk result (λ done. m.chain.shape ≡ p) → IfErr result (λ fault. m ≡ known)
     → IsKnownOrHasSlots keys known m
 has-room (Ok done) keys p known m room shape same = inr (subst (HasSlots keys) (sym shape) room)
@@ -673,7 +673,7 @@ module _
     (settled : KnowOneLog before) (keys : ℕ) (room : HasSlots keys p) where
   -- what a renewal makes of them
   pub deals :
-      (result : Result ⊤ RenewFault) → IsPartedAnew p before after result
+      (result : Result ⊤ OutOfMemory) → IsPartedAnew p before after result
       → (length after ≡ p.seats)
       × ((can : CanDealAnew keys (length after) me after)
       × IfOk result (λ done. can.anew.shared.chain.shape ≡ p)
@@ -729,7 +729,7 @@ module _
 
 -- where it was refused, the first one that goes home is of the same map
 pub begun-in :
-    (result : Result ⊤ RenewFault) (keys n : ℕ) (me : Me (Option HandleOf) LaneView)
+    (result : Result ⊤ OutOfMemory) (keys n : ℕ) (me : Me (Option HandleOf) LaneView)
     (handles : List HandleOf) (can : CanDealAnew keys n me handles) (a b : Account)
     → IfErr result (λ fault. can.anew.shared ≡ me.0.map) → HasBegunBy handles a b
     → OnErr result (HasBegunIn me.0.map a b)

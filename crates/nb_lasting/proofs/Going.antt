@@ -22,11 +22,11 @@ use Rattle.nb_lasting.specs.declared.shared.LaneView.{LaneView}
 
 -- all handles are taken
 pub taken-all :
-    (of : SharedOf) (n : ℕ) (before : Account) (me : Me (Option HandleOf) LaneView)
-    (handles : List HandleOf) → n ≡ of.guests → HoldsBelow n me handles
+    (of : SharedOf) (before : Account) (me : Me (Option HandleOf) LaneView)
+    (handles : List HandleOf) → HoldsBelow of.guests me handles
     → me.0.account ≡ took_all handles before → HasTakenAll of handles before me.0.account
-taken-all of n before me handles many holds account = record {
-  count = holds.held.count ∙ many;
+taken-all of before me handles holds account = record {
+  count = holds.held.count;
   numbered = λ i h at. (holds.held.each i h at).0.number;
   account = account;
 }

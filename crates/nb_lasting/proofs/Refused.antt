@@ -6,6 +6,7 @@ use Rattle.std.proofs.lemmas.List.{append_assoc, append_cancel_right, length-map
 use Rattle.std.proofs.lemmas.List.Elements.{All-append, All-cons, All-head, All-nil, All-tail}
 use Rattle.std.proofs.lemmas.List.FromFn.{length-range_with_len}
 use Rattle.std.proofs.lemmas.Option.{slice_get-get_or}
+use Rattle.std.specs.declared.alloc.AllocError.{AllocError as OutOfMemory}
 use Rattle.nb_core.proofs.Seating.{All-left, All-right}
 use Rattle.nb_core.proofs.Theorems.{calls_append}
 use Rattle.nb_core.specs.Log.{Entry, calls_of, log_of, map_after, map_of_log}
@@ -21,11 +22,9 @@ use Rattle.nb_map.specs.Logs.{log}
 use Rattle.nb_map.specs.Maps.{MapOf, SeatOf}
 use Rattle.nb_map.specs.Renewing.{HasRenewed, IsKept}
 use Rattle.nb_map.specs.Settling.{HasCaughtUp, HaveSettled}
-use Rattle.nb_map.specs.declared.faults.RenewFault.{RenewFault}
-use Rattle.nb_map.specs.declared.faults.SettleFault.{SettleFault}
-use Rattle.nb_lasting.proofs.Renewed.{anew, at-all, handle-at, length-each, length-zip, mapped-at, seen-map, zip-at, zip-weaker}
+use Rattle.nb_lasting.proofs.Renewed.{IsPartedAnew, anew, at-all, handle-at, length-each, length-zip, mapped-at, seen-map, zip-at, zip-weaker}
 use Rattle.nb_lasting.proofs.Sharing.{Same, decided, log-as-events}
-use Rattle.nb_lasting.specs.Gathered.{AreSingle, IsPartedAnew, IsRested, seats_of_each}
+use Rattle.nb_lasting.specs.Gathered.{AreSingle, IsRested, seats_of_each}
 use Rattle.nb_lasting.specs.Renewal.{AreAnew, AreHeld, AreRenewed, KnowOneLog}
 use Rattle.nb_lasting.specs.Shared.{EpochIn, IsLane, IsOfGuest, KnowsIn, as_events}
 
@@ -312,7 +311,7 @@ module _
 -- ---- as many seats as before
 
 pub counted-long :
-    (result : Result ℕ SettleFault) (joined whole : HandleOf)
+    (result : Result ℕ OutOfMemory) (joined whole : HandleOf)
     → IfOk result (HaveSettled joined.map (seats_of joined) (seats_of whole))
     → IfErr result (λ refused. whole ≡ joined)
     → length (seats_of whole) ≡ length (seats_of joined)
@@ -322,7 +321,7 @@ counted-long (Ok size) joined whole settled same =
 counted-long (Err fault) joined whole settled same = ap (λ (h : HandleOf). length (seats_of h)) same
 
 pub renewed-long :
-    (p : Plan) (result : Result ⊤ RenewFault) (joined whole : HandleOf)
+    (p : Plan) (result : Result ⊤ OutOfMemory) (joined whole : HandleOf)
     → length (seats_of joined) ≡ p.seats → IfOk result (λ done. HasRenewed p joined whole)
     → IfErr result (λ fault. IsRested joined whole) → length (seats_of whole) ≡ p.seats
 renewed-long p (Ok done) joined whole many renewed rested =
@@ -344,7 +343,7 @@ module _
     (held : AreHeld m e.filled e.past p.seats knew before) (settled : KnowOneLog before)
     (single : AreSingle before) where
   pub renewed-all :
-      (result : Result ⊤ RenewFault) → single.shared ≡ m → IsPartedAnew p before after result
+      (result : Result ⊤ OutOfMemory) → single.shared ≡ m → IsPartedAnew p before after result
       → AreRenewed p m knew after result
   renewed-all (Ok done) one is =
       let both = subst (λ hs. (anew : AreAnew p.seats knew hs) × (anew.shared.chain.shape ≡ p))

@@ -2,12 +2,13 @@
 use Rattle.std.proofs.Common.{◌≡◌, ◌∙◌, ◌++◌, ◌<◌, ◌≤◌, ◌^◌, ℕ, cond, zero, suc, List, [], ◌∷◌, All, Some, ap, inl, inr, length, map, refl, slice_get, subst, sym, arith}
 use Rattle.std.specs.FinMap as numbers
 use Rattle.std.specs.List.{AllZip, range_with_len}
-use Rattle.std.specs.Prelude.{◌-◌, Err, IfOk, None, Ok, OnOk, Option, Result, ⊤, get_or, option_map, unwrap_or}
+use Rattle.std.specs.Prelude.{◌-◌, Err, IfErr, IfOk, None, Ok, OnOk, Option, Result, ⊤, get_or, option_map, unwrap_or}
 use Rattle.std.proofs.lemmas.Bool.{eq-eqb}
 use Rattle.std.proofs.lemmas.List.{append_cancel_right, length-map}
 use Rattle.std.proofs.lemmas.List.Elements.{All-append, All-cons, All-head, All-nil, All-tail}
 use Rattle.std.proofs.lemmas.List.FromFn.{get_or-range_with_len, length-range_with_len}
 use Rattle.std.proofs.lemmas.Option.{get_or_from_slice_get, slice_get-get_or, slice_get-map, slice_get_within}
+use Rattle.std.specs.declared.alloc.AllocError.{AllocError as OutOfMemory}
 use Rattle.nb_core.proofs.Seating.{All-left}
 use Rattle.nb_core.proofs.Theorems.{stays}
 use Rattle.nb_core.specs.History.{IsLegal}
@@ -26,15 +27,13 @@ use Rattle.nb_map.specs.Ending.{EndedOf, EndedWith, HasAll, log_left, map_left}
 use Rattle.nb_map.specs.Handles.{HandleOf, IsSameMap, handle_on, seats_of}
 use Rattle.nb_map.specs.Logs.{HasLogged, log}
 use Rattle.nb_map.specs.Maps.{MapOf, SeatOf, new_seat, new_seats}
-use Rattle.nb_map.specs.Renewing.{HasRenewed}
+use Rattle.nb_map.specs.Renewing.{HasRenewed, HasTooMany}
 use Rattle.nb_map.specs.Settling.{HasCaughtUp}
-use Rattle.nb_map.specs.declared.faults.RenewFault.{RenewFault}
-use Rattle.nb_map.specs.declared.faults.SettleFault.{SettleFault}
 use Rattle.nb_lasting.proofs.Calling.{crowded-away, known-then}
 use Rattle.nb_lasting.proofs.Epochs.{leaves, one_log_for_all}
 use Rattle.nb_lasting.proofs.Sharing.{log-as-events}
 use Rattle.nb_lasting.specs.Epochs.{AllKnow, EpochOf, HasGoneOnBy, HaveMetIn, IsOfEpoch, Knows}
-use Rattle.nb_lasting.specs.Gathered.{HaveTooMany, IsPartedAnew, IsPartedCounted, AreSingle, seats_of_each}
+use Rattle.nb_lasting.specs.Gathered.{AreSingle, IsPartedCounted, IsRested, IsSingle, parts_of, seats_of_each}
 use Rattle.nb_lasting.specs.Lasting.{HasSlots}
 use Rattle.nb_lasting.specs.Renewal.{AreAnew, AreHeld, AreStill, HasBegunAs, HasBegunBy}
 use Rattle.nb_lasting.specs.Shared.{EpochIn, IsLane, IsOfGuest, KnowsIn, as_events, known_of}
@@ -133,6 +132,46 @@ whole-made e n seats ended whole many past left met =
     (All-left (IsOfGuest n) met.later e.filled (subst (All (IsOfGuest n)) met.left all)) past)
 
 -- ---- handles that were made one and parted again
+
+-- The handles are of all seats, in order, of one that was made anew, or memory for that was refused,
+-- and its seats settled; and it was parted.
+pub record IsPartedAnew (p : Plan) (before after : List HandleOf) (result : Result ⊤ OutOfMemory) :
+    Type 0 where
+  pub joined : HandleOf
+  pub whole : HandleOf
+  pub one_map : (single : AreSingle before) → joined.map ≡ single.shared
+  pub seats : seats_of joined ≡ seats_of_each before
+  pub parted : after ≡ parts_of whole
+  pub renewed : IfOk result (λ done. HasRenewed p joined whole)
+  pub rested : IfErr result (λ refused. IsRested joined whole)
+
+pub each-parted :
+    (m : MapOf) (seats : List SeatOf) → seats_of_each (map (handle_on m) seats) ≡ seats
+each-parted m [] = refl
+each-parted m (seat ∷ seats) = ap (λ l. seat ∷ l) (each-parted m seats)
+
+pub map-parted :
+    (m : MapOf) (seats : List SeatOf) → (single : AreSingle (map (handle_on m) seats))
+    → m ≡ single.shared
+map-parted m [] single = absurd (let none : 1 ≤ 0 = single.some in omega (arith, none))
+map-parted m (seat ∷ seats) single =
+    (All-head (IsSingle single.shared) (handle_on m seat) (map (handle_on m) seats) single.each).map
+
+-- the parts of a handle, and those of what a renewal makes of it
+pub parted-anew :
+    (p : Plan) (before whole : HandleOf) (after : List HandleOf) (result : Result ⊤ OutOfMemory)
+    → after ≡ parts_of whole → IfOk result (λ done. HasRenewed p before whole)
+    → IfErr result (λ refused. IsRested before whole)
+    → IsPartedAnew p (parts_of before) after result
+parted-anew p before whole after result parted renewed rested = record {
+  joined = before;
+  whole = whole;
+  one_map = map-parted before.map (seats_of before);
+  seats = sym (each-parted before.map (seats_of before));
+  parted = parted;
+  renewed = renewed;
+  rested = rested;
+}
 
 -- the seat has made these calls, of which this holds
 abbrev pub HasMade : (List (Call × Reply) → Type 0) → (old new : SeatOf) → Type 0
@@ -318,7 +357,7 @@ pub record AreCountedIn (m : MapOf) (know : ℕ → List Event) (before after : 
 pub counted-still :
     (n : ℕ) (m : MapOf) (e : EpochIn) (knew : ℕ → List Event) (before after : List HandleOf)
     → AreHeld m e.filled e.past n knew before → (single : AreSingle before) → single.shared ≡ m
-    → (result : Result ℕ SettleFault) → IsPartedCounted before after result
+    → (result : Result ℕ OutOfMemory) → IsPartedCounted before after result
     → (still : AreStill m e.filled e.past n knew after)
     × IfOk result (AreCountedIn m still.know before after)
 counted-still n m e knew before after held single one (Err fault) is = (
@@ -463,6 +502,11 @@ one-left seats whole first ended left at each =
         (calls_of entry.seat later)) (eq-eqb entry.seat entry.seat refl) in
         absurd (omega (arith, ap length (sym some-own ∙ none-own)))
 
+-- the map of these handles has more keys than the last table of the shape has slots
+abbrev pub HaveTooMany : Plan → List HandleOf → Type 0
+HaveTooMany p handles =
+    (joined : HandleOf) × (seats_of joined ≡ seats_of_each handles) × HasTooMany p joined
+
 -- a shape for twice the keys that were counted has room for them
 pub has-room-left :
     (p : Plan) (n : ℕ) (m : MapOf) (filled past : List Event) (know counted-know : ℕ → List Event)
@@ -493,7 +537,7 @@ has-room-left p n m filled past know counted-know before after size keys some he
 -- the first handle that goes home, of a new map, knows what the old one's handles knew
 pub begun-as :
     (p : Plan) (n : ℕ) (m : MapOf) (filled past : List Event) (know : ℕ → List Event)
-    (before after : List HandleOf) (a b : Account) (result : Result ⊤ RenewFault) → 1 ≤ n
+    (before after : List HandleOf) (a b : Account) (result : Result ⊤ OutOfMemory) → 1 ≤ n
     → AreHeld m filled past n know before → IsPartedAnew p before after result
     → HasBegunBy after a b → OnOk result (HasBegunAs p before a b)
 begun-as p n m filled past know before after a b (Err fault) some held is begun = tt

@@ -1,18 +1,19 @@
 -- All handles of a map, each with one seat, are made one, which is counted or made anew, and parted
 -- again.
-use Rattle.std.specs.Prelude.{◌≡◌, ◌≤◌, ℕ, List, [], All, Err, IfErr, IfOk, Result, Some, ⊤, length, map, slice_get, slice_set}
-use Rattle.nb_core.specs.Plans.{Plan}
+use Rattle.std.specs.Prelude.{◌≡◌, ◌≤◌, ℕ, List, [], All, IfErr, IfOk, Result, Some, length, map, slice_get, slice_set}
+use Rattle.std.specs.declared.alloc.AllocError.{AllocError as OutOfMemory}
 use Rattle.nb_core.specs.declared.calls.Call.{Call}
 use Rattle.nb_core.specs.declared.calls.Reply.{Reply}
 use Rattle.nb_map.specs.Handles.{HandleOf, IsSameMap, KeepsRest, handle_on, seats_of}
 use Rattle.nb_map.specs.Maps.{MapOf, SeatOf}
-use Rattle.nb_map.specs.Renewing.{HasRenewed, HasTooMany, IsKept}
+use Rattle.nb_map.specs.Renewing.{IsKept}
 use Rattle.nb_map.specs.Settling.{HaveSettled}
 use Rattle.nb_map.specs.declared.faults.PutFault.{PutFault}
-use Rattle.nb_map.specs.declared.faults.RenewFault.TheVariants as renew_fault
-use Rattle.nb_map.specs.declared.faults.RenewFault.{RenewFault}
-use Rattle.nb_map.specs.declared.faults.SettleFault.{SettleFault}
 use Rattle.nb_lasting.specs.Tries.{IsTry}
+
+-- a handle for each seat of this one
+abbrev pub parts_of : HandleOf → List HandleOf
+parts_of whole = map (handle_on whole.map) (seats_of whole)
 
 -- each handle's own seat
 abbrev pub seats_of_each : List HandleOf → List SeatOf
@@ -38,33 +39,15 @@ pub record IsRested (before after : HandleOf) : Type 0 where
   pub settled : HaveSettled tried.map (seats_of tried) (seats_of after) size
   pub same : IsSameMap tried after
 
--- the handles were one, with all their seats in order; that was made anew, or refused to, and
--- settled; and it was parted again
-pub record IsPartedAnew (p : Plan) (before after : List HandleOf) (result : Result ⊤ RenewFault) :
-    Type 0 where
-  pub joined : HandleOf
-  pub whole : HandleOf
-  pub one_map : (single : AreSingle before) → joined.map ≡ single.shared
-  pub seats : seats_of joined ≡ seats_of_each before
-  pub parted : after ≡ map (handle_on whole.map) (seats_of whole)
-  pub renewed : IfOk result (λ done. HasRenewed p joined whole)
-  pub rested : IfErr result (λ fault. IsRested joined whole)
-  pub full : result ≡ Err renew_fault.Full → HasTooMany p joined
-
--- the map of these handles has more keys than the last table of the shape has slots
-abbrev pub HaveTooMany : Plan → List HandleOf → Type 0
-HaveTooMany p handles =
-    (joined : HandleOf) × (seats_of joined ≡ seats_of_each handles) × HasTooMany p joined
-
 -- The handles were one, with all their seats in order; its keys were counted, or memory for that
 -- was refused; and it was parted again.
-pub record IsPartedCounted (before after : List HandleOf) (result : Result ℕ SettleFault) :
+pub record IsPartedCounted (before after : List HandleOf) (result : Result ℕ OutOfMemory) :
     Type 0 where
   pub joined : HandleOf
   pub whole : HandleOf
   pub one_map : (single : AreSingle before) → joined.map ≡ single.shared
   pub seats : seats_of joined ≡ seats_of_each before
-  pub parted : after ≡ map (handle_on whole.map) (seats_of whole)
+  pub parted : after ≡ parts_of whole
   pub same : IsSameMap joined whole
   pub settled : IfOk result (HaveSettled joined.map (seats_of joined) (seats_of whole))
   pub kept : IfErr result (λ refused. whole ≡ joined)

@@ -1,6 +1,7 @@
 -- What a renewer holds: the handles of the lanes below a number, and of all lanes at last.
 use Rattle.std.specs.FinMap as numbers
 use Rattle.std.specs.Prelude.{◌≡◌, ◌≢◌, ◌*◌, ◌<◌, ◌≤◌, ◌++◌, ◌⊎◌, ℕ, zero, suc, All, List, [], ◌∷◌, Option, Some, None, IfErr, IfOk, Result, ⊤, length, max, slice_get}
+use Rattle.std.specs.declared.alloc.AllocError.{AllocError as OutOfMemory}
 use Rattle.atomic_table.specs.Table.{Me}
 use Rattle.nb_core.specs.Log.{Entry, Numbers, log_of, map_of_log}
 use Rattle.nb_core.specs.Meaning.{IsCrowded}
@@ -9,7 +10,6 @@ use Rattle.nb_core.specs.declared.events.Event.{Event}
 use Rattle.nb_map.specs.Handles.{HandleOf}
 use Rattle.nb_map.specs.Logs.{log}
 use Rattle.nb_map.specs.Maps.{MapOf}
-use Rattle.nb_map.specs.declared.faults.RenewFault.{RenewFault}
 use Rattle.nb_lasting.specs.Epochs.{HasGoneOnBy}
 use Rattle.nb_lasting.specs.Lasting.{HasSlots, IsGreatest}
 use Rattle.nb_lasting.specs.Shared.{EpochIn, IsCurrent, IsKnownOrHasSlots, IsLane, IsOfGuest, KnowsIn}
@@ -61,7 +61,7 @@ pub record KnowOneLog (handles : List HandleOf) : Type 0 where
 -- What a renewal makes of all handles of a map. Where it is refused, the epoch is one of the same
 -- map, so that what the renewal has read is nobody's call.
 abbrev pub AreRenewed :
-    Plan → MapOf → (ℕ → List Event) → (after : List HandleOf) → Result ⊤ RenewFault → Type 0
+    Plan → MapOf → (ℕ → List Event) → (after : List HandleOf) → Result ⊤ OutOfMemory → Type 0
 AreRenewed p m knew after result =
     (anew : AreAnew p.seats knew after) × IfOk result (λ done. anew.shared.chain.shape ≡ p)
     × IfErr result (λ fault. anew.shared ≡ m)

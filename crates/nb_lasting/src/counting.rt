@@ -35,13 +35,8 @@ pub(crate) fn count_through<R: Wait>(
     ensures size { IfOk result (λ size.
         size ≡ length (numbers.entries (map_of_log (log_of token.new.me.0.seen)))) }
 {
-    let row = &hall.table.shared;
-    let seats = hall.table.slot_count();
-    let handles = take_all_handles(rt, row, token, hall.alloc, seats)?;
+    let handles = take_all_handles(rt, hall, token)?;
     let (handles, size) = counted(rt, hall.alloc, handles);
-    all_home(row, token, handles, lane);
-    match size {
-        Ok(size) => Ok(size),
-        Err(_) => Err(OutOfMemory),
-    }
+    all_home(hall, token, handles, lane);
+    size
 }

@@ -85,7 +85,7 @@ impl Guest {
             (reply_at (call.Get key) result) }
         ensures read { GuestHasRead key self.old self.new result }
     {
-        get_through(rt, &self.hall.table.shared, &mut self.token, self.lane, key)
+        get_through(rt, &self.hall, &mut self.token, self.lane, key)
     }
 
     /// Changes what the map has at a key, where the condition holds of it, and replies what it had.
@@ -239,7 +239,7 @@ impl Guest {
     {
         write_through(
             rt,
-            &self.hall.table.shared,
+            &self.hall,
             &mut self.token,
             self.lane,
             key,
@@ -277,7 +277,7 @@ impl Guest {
         ensures looked { HasLookedBy self.old self.new.account result }
         ensures left { self.new.left ≡ self.old.left }
     {
-        look_through(rt, &self.hall.table.shared, &mut self.token, self.lane)
+        look_through(rt, &self.hall, &mut self.token, self.lane)
     }
 
     /// Makes the map anew where it is crowded, and there is memory. It looks now and then.
@@ -310,24 +310,24 @@ impl Guest {
         let _ = renew_through(rt, &self.hall, &mut self.token, self.lane, renewals);
     }
 
-    /// A write that puts no sum.
+    /// A write that puts no sum. It answers what was there.
     fn set<R: Wait>(
         &mut self,
         rt: &R,
         key: Key,
         want: Want,
         change: Change,
-    ) -> Result<Reply, GrowFault>
+    ) -> Result<Option<Num>, GrowFault>
         requires no_sum { NeverOverflows (call.Write key want change) }
         ensures of { self.new.of ≡ self.old.of }
         ensures wrote { IfOk result
-            (GuestHasReplied (call.Write key want change) self.old self.new) }
+            (GuestHasFound (call.Write key want change) self.old self.new) }
         ensures refused { IfErr result (λ fault. GuestIsRefused (call.Write key want change)
             self.old self.new (as_write_fault fault)) }
         ensures worked { GuestHasWorked (call.Write key want change) self.old self.new }
     {
         match self.put_if_match(rt, key, want, change) {
-            Ok(reply) => Ok(reply),
+            Ok(reply) => Ok(reply.before),
             Err(WriteFault::Full) => Err(GrowFault::Full),
             Err(WriteFault::OutOfMemory) => Err(GrowFault::OutOfMemory),
             Err(WriteFault::ValueRange) => unreachable!(),
@@ -342,7 +342,7 @@ impl Guest {
         ensures replied { GuestHasReplied (call.Write key want change) self.old self.new result }
         ensures worked { GuestHasWorked (call.Write key want change) self.old self.new }
     {
-        match self.set(rt, key, want, change) {
+        match self.put_if_match(rt, key, want, change) {
             Ok(reply) => reply,
             Err(_) => unreachable!(),
         }
@@ -357,8 +357,7 @@ impl Guest {
         ensures worked { GuestHasWorked (put_of key number) self.old self.new }
     {
         number.known();
-        let reply = self.set(rt, key, Want::Any, Change::Put(number))?;
-        Ok(reply.before)
+        self.set(rt, key, Want::Any, Change::Put(number))
     }
 
     /// Puts a number at a key that has none, and answers what was there.
@@ -376,8 +375,7 @@ impl Guest {
         ensures worked { GuestHasWorked (put_if_absent_of key number) self.old self.new }
     {
         number.known();
-        let reply = self.set(rt, key, Want::Absent, Change::Put(number))?;
-        Ok(reply.before)
+        self.set(rt, key, Want::Absent, Change::Put(number))
     }
 
     /// Raises the number at a key, an absent one counting as 0, and answers what was there.

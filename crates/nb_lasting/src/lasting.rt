@@ -89,16 +89,16 @@ impl Lasting {
         }
     }
 
-    /// A write that puts no sum.
-    fn set(&mut self, key: Key, want: Want, change: Change) -> Result<Reply, GrowFault>
+    /// A write that puts no sum. It answers what was there.
+    fn set(&mut self, key: Key, want: Want, change: Change) -> Result<Option<Num>, GrowFault>
         requires no_sum { overflows (call.Write key want change) self.old ≢ true }
-        ensures wrote { IfOk result (IsMadeOn (call.Write key want change) self.old self.new) }
+        ensures wrote { IfOk result (Finds (call.Write key want change) self.old self.new) }
         ensures refused { IfErr result (λ fault. IsRefusedFor (call.Write key want change) self.old
             (as_write_fault fault)) }
         ensures kept { OnErr result (self.new ≡ self.old) }
     {
         match self.put_if_match(key, want, change) {
-            Ok(reply) => Ok(reply),
+            Ok(reply) => Ok(reply.before),
             Err(WriteFault::Full) => Err(GrowFault::Full),
             Err(WriteFault::OutOfMemory) => Err(GrowFault::OutOfMemory),
             Err(WriteFault::ValueRange) => unreachable!(),
@@ -111,7 +111,7 @@ impl Lasting {
         requires fills_none { Fills (call.Write key want change) → ⊥ }
         ensures { IsMadeOn (call.Write key want change) self.old self.new result }
     {
-        match self.set(key, want, change) {
+        match self.put_if_match(key, want, change) {
             Ok(reply) => reply,
             Err(_) => unreachable!(),
         }
@@ -125,8 +125,7 @@ impl Lasting {
         ensures kept { OnErr result (self.new ≡ self.old) }
     {
         number.known();
-        let reply = self.set(key, Want::Any, Change::Put(number))?;
-        Ok(reply.before)
+        self.set(key, Want::Any, Change::Put(number))
     }
 
     /// Puts a number at a key that has none, and answers what was there.
@@ -137,8 +136,7 @@ impl Lasting {
         ensures kept { OnErr result (self.new ≡ self.old) }
     {
         number.known();
-        let reply = self.set(key, Want::Absent, Change::Put(number))?;
-        Ok(reply.before)
+        self.set(key, Want::Absent, Change::Put(number))
     }
 
     /// Raises the number at a key, an absent one counting as 0, and answers what was there.

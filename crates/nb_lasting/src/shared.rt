@@ -27,7 +27,8 @@ ghost use Rattle.std.specs.Prelude.{[], Some, ℕ, ◌≡◌, ◌≢◌, ◌*◌
 ghost use Rattle.nb_lasting.specs.Shared.{HasTaken, FitsLanes, as_guest, dealer_left, guest_alone, guest_left, new_guest};
 ghost use Rattle.nb_lasting.specs.Holding.{HasGivenBy, MayGive};
 
-use atomic_table::{Join, Play, Seat, Shared, Split, TableRule};
+use crate::hall::Hall;
+use atomic_table::{Join, Play, Seat, Split, TableRule};
 use nb_core::Event;
 use nb_map::{Handle, Map};
 use std::collections::LinkedList;
@@ -168,114 +169,108 @@ impl Join<LaneView> for Merge {
     ghost spent = { nobody };
 }
 
-pub(crate) type Row = Shared<Option<Handle>, LaneView, Opened, Lanes>;
-
 pub(crate) type Token = Seat<Option<Handle>, LaneView>;
 
 /// Takes a lane's handle, if it is at home, and leaves this in its word.
-pub(crate) fn take(row: &Row, token: &mut Token, lane: usize, out: u64) -> bool
+pub(crate) fn take(hall: &Hall, token: &mut Token, lane: usize, out: u64) -> bool
     requires out { out ≢ 0 }
-    requires table { token.old.table_id ≡ row.now.table_id }
-    requires lane { lane < row.now.key.seats }
-    requires words { row.now.table_id.words ≡ 8 * row.now.key.seats }
-    requires few { row.now.key.seats ≤ 256 }
+    requires table { token.old.table_id ≡ hall.now.table.shared.table_id }
+    requires lane { lane < hall.now.table.shared.key.seats }
     ensures table { token.new.table_id ≡ token.old.table_id }
     ensures taken { result ≡ true → HasTaken lane token.old.me token.new.me }
-    ensures seated { result ≡ true → FitsLanes row.now.table_id.slots token.new.me.0 }
+    ensures seated { result ≡ true → FitsLanes hall.now.table.shared.key.seats token.new.me.0 }
     ensures kept { result ≡ false → token.new.me ≡ token.old.me }
 {
-    row.compare_exchange::<Leaving>(token, SPACING * lane, 0, out) == 0
+    hall.table
+        .shared
+        .compare_exchange::<Leaving>(token, SPACING * lane, 0, out)
+        == 0
 }
 
 /// Marks a lane that is out, so that who gives it back wakes a sleeper.
-fn mark(row: &Row, token: &mut Token, lane: usize)
-    requires table { token.old.table_id ≡ row.now.table_id }
-    requires lane { lane < row.now.key.seats }
-    requires words { row.now.table_id.words ≡ 8 * row.now.key.seats }
-    requires few { row.now.key.seats ≤ 256 }
+fn mark(hall: &Hall, token: &mut Token, lane: usize)
+    requires table { token.old.table_id ≡ hall.now.table.shared.table_id }
+    requires lane { lane < hall.now.table.shared.key.seats }
     ensures table { token.new.table_id ≡ token.old.table_id }
     ensures same { token.new.me ≡ token.old.me }
 {
-    row.compare_exchange::<Marking>(token, SPACING * lane, OUT, AWAITED);
+    hall.table
+        .shared
+        .compare_exchange::<Marking>(token, SPACING * lane, OUT, AWAITED);
 }
 
 /// Takes a lane's handle, and sleeps while it is out.
-pub(crate) fn hold<R: Wait>(rt: &R, row: &Row, token: &mut Token, lane: usize)
-    requires table { token.old.table_id ≡ row.now.table_id }
-    requires lane { lane < row.now.key.seats }
-    requires words { row.now.table_id.words ≡ 8 * row.now.key.seats }
-    requires few { row.now.key.seats ≤ 256 }
+pub(crate) fn hold<R: Wait>(rt: &R, hall: &Hall, token: &mut Token, lane: usize)
+    requires table { token.old.table_id ≡ hall.now.table.shared.table_id }
+    requires lane { lane < hall.now.table.shared.key.seats }
     ensures table { token.new.table_id ≡ token.old.table_id }
     ensures taken { HasTaken lane token.old.me token.new.me }
-    ensures seated { FitsLanes row.now.table_id.slots token.new.me.0 }
+    ensures seated { FitsLanes hall.now.table.shared.key.seats token.new.me.0 }
 {
-    if take(row, token, lane, OUT) {
+    if take(hall, token, lane, OUT) {
         return;
     }
     for _ in rt.forever() {
         // It may not be the only one that waits.
-        if take(row, token, lane, AWAITED) {
+        if take(hall, token, lane, AWAITED) {
             return;
         }
-        mark(row, token, lane);
-        row.park(rt, SPACING * lane, AWAITED as u32);
+        mark(hall, token, lane);
+        hall.table.shared.park(rt, SPACING * lane, AWAITED as u32);
     }
     unreachable!()
 }
 
 /// Gives a lane's handle back, as the play says, and wakes one that sleeps until it comes home.
 pub(crate) fn give_back<P: Play<Option<Handle>, LaneView>>(
-    row: &Row,
+    hall: &Hall,
     token: &mut Token,
     lane: usize,
 )
-    requires table { token.old.table_id ≡ row.now.table_id }
-    requires lane { lane < row.now.key.seats }
-    requires words { row.now.table_id.words ≡ 8 * row.now.key.seats }
-    requires few { row.now.key.seats ≤ 256 }
-    requires may { MayGive P.then row.now.key row.now.table_id.slots lane token.old.id token.old.me }
+    requires table { token.old.table_id ≡ hall.now.table.shared.table_id }
+    requires lane { lane < hall.now.table.shared.key.seats }
+    requires may { MayGive P.then hall.now.table.shared.key hall.now.table.shared.table_id.slots lane
+        token.old.id token.old.me }
     ensures table { token.new.table_id ≡ token.old.table_id }
-    ensures given { HasGivenBy P.then row.now.table_id.slots lane token.old.me token.new.me }
+    ensures given { HasGivenBy P.then hall.now.table.shared.table_id.slots lane token.old.me
+        token.new.me }
 {
-    if row.swap::<P>(token, SPACING * lane, 0) == AWAITED {
-        row.wake_one(SPACING * lane);
+    if hall.table.shared.swap::<P>(token, SPACING * lane, 0) == AWAITED {
+        hall.table.shared.wake_one(SPACING * lane);
     }
 }
 
 /// A token for another guest, which has the next lane.
-pub(crate) fn another(row: &Row, token: &mut Token) -> Token
-    requires table { token.old.table_id ≡ row.now.table_id }
-    requires words { row.now.table_id.words ≡ 8 * row.now.key.seats }
-    requires few { row.now.key.seats ≤ 256 }
-    requires room { (d : ℕ) × (token.old.me.0.dealer ≡ Some d) × (d < row.now.key.seats) }
+pub(crate) fn another(hall: &Hall, token: &mut Token) -> Token
+    requires table { token.old.table_id ≡ hall.now.table.shared.table_id }
+    requires room { (d : ℕ) × (token.old.me.0.dealer ≡ Some d)
+        × (d < hall.now.table.shared.key.seats) }
     ensures table { (token.new.table_id ≡ token.old.table_id)
-        × (result.table_id ≡ row.now.table_id) }
+        × (result.table_id ≡ hall.now.table.shared.table_id) }
     ensures left { token.new.me ≡ (dealer_left token.old.me.0, token.old.me.1) }
     ensures guest { result.me ≡ (new_guest token.old.me.0, []) }
 {
-    row.split_seat::<Fork>(token)
+    hall.table.shared.split_seat::<Fork>(token)
 }
 
 /// A token that is the guest that this one was, which is no guest any more.
-pub(crate) fn hand_on(row: &Row, token: &mut Token) -> Token
-    requires table { token.old.table_id ≡ row.now.table_id }
-    requires words { 1 ≤ row.now.table_id.words }
+pub(crate) fn hand_on(hall: &Hall, token: &mut Token) -> Token
+    requires table { token.old.table_id ≡ hall.now.table.shared.table_id }
     ensures table { (token.new.table_id ≡ token.old.table_id)
-        × (result.table_id ≡ row.now.table_id) }
+        × (result.table_id ≡ hall.now.table.shared.table_id) }
     ensures left { token.new.me ≡ (guest_left token.old.me.0, token.old.me.1) }
     ensures guest { result.me ≡ (guest_alone token.old.me.0, []) }
 {
-    row.split_seat::<HandOn>(token)
+    hall.table.shared.split_seat::<HandOn>(token)
 }
 
 /// A token becomes the guest that another was, which makes no call.
-pub(crate) fn become_guest(row: &Row, token: &mut Token, other: Token)
-    requires table { (token.old.table_id ≡ row.now.table_id)
-        × (other.table_id ≡ row.now.table_id) }
-    requires words { 1 ≤ row.now.table_id.words }
+pub(crate) fn become_guest(hall: &Hall, token: &mut Token, other: Token)
+    requires table { (token.old.table_id ≡ hall.now.table.shared.table_id)
+        × (other.table_id ≡ hall.now.table.shared.table_id) }
     requires idle { (other.me.0.outs ≡ []) × (other.me.1 ≡ []) }
     ensures table { token.new.table_id ≡ token.old.table_id }
     ensures guest { token.new.me ≡ (as_guest token.old.me.0 other.me.0, token.old.me.1) }
 {
-    row.join_seat::<Merge>(token, other);
+    hall.table.shared.join_seat::<Merge>(token, other);
 }

@@ -62,7 +62,7 @@ fn invited(
 {
     let mut made = Vec::with_capacity(hall.alloc, guests)?;
     for lane in 0..guests {
-        let own = another(&hall.table.shared, token);
+        let own = another(hall, token);
         made.push_reserved(Guest {
             hall: Arc::try_clone(hall)?,
             token: own,
@@ -141,7 +141,7 @@ impl SharedLasting {
         }
         let SharedLasting { hall, token, room } = self;
         let mut token = token;
-        Ok(close_row(rt, &hall.table.shared, &mut token, room, guests))
+        Ok(close_row(rt, &hall, &mut token, room, guests))
     }
 
     /// Whether these are all guests, in their order.

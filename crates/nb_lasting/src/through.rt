@@ -8,7 +8,8 @@ ghost use Rattle.nb_map.specs.Promises.{HasGot, HasWritten, replied_or_refused};
 ghost use Rattle.nb_lasting.specs.Holding.{HasCalledIn, HasWrittenIn, IsIdleGuest};
 ghost use Rattle.nb_lasting.specs.Visits.{HasVisited};
 
-use crate::shared::{Coming, Row, Token, give_back, hold};
+use crate::hall::Hall;
+use crate::shared::{Coming, Token, give_back, hold};
 use nb_core::{Change, Key, Num, Reply, Want};
 use nb_map::{Occupancy, PutFault};
 use std::sync::Wait;
@@ -16,16 +17,13 @@ use std::sync::Wait;
 /// What the map has at a key.
 pub(crate) fn get_through<R: Wait>(
     rt: &R,
-    row: &Row,
+    hall: &Hall,
     token: &mut Token,
     lane: usize,
     key: Key,
 ) -> Option<Num>
-    requires table { token.old.table_id ≡ row.now.table_id }
-    requires lane { lane < row.now.key.seats }
-    requires words { row.now.table_id.words ≡ 8 * row.now.key.seats }
-    requires few { row.now.key.seats ≤ 256 }
-    requires slots { row.now.table_id.slots ≡ row.now.key.seats }
+    requires table { token.old.table_id ≡ hall.now.table.shared.table_id }
+    requires lane { lane < hall.now.table.shared.key.seats }
     requires idle { IsIdleGuest lane token.old.me }
     ensures table { token.new.table_id ≡ token.old.table_id }
     ensures idle { IsIdleGuest lane token.new.me }
@@ -34,30 +32,27 @@ pub(crate) fn get_through<R: Wait>(
     ensures visited { HasVisited lane (λ there back. HasGot there.map
         key there.seat back.seat result) token.old.me.0.account token.new.me.0.account }
 {
-    hold(rt, row, token, lane);
-    let Some(handle) = token.slot_mut(row, lane) else {
+    hold(rt, hall, token, lane);
+    let Some(handle) = token.slot_mut(&hall.table.shared, lane) else {
         unreachable!();
     };
     let found = handle.get(key);
-    give_back::<Coming>(row, token, lane);
+    give_back::<Coming>(hall, token, lane);
     found
 }
 
 /// Changes what the map has at a key, where the condition holds of it, and replies what it had.
 pub(crate) fn write_through<R: Wait>(
     rt: &R,
-    row: &Row,
+    hall: &Hall,
     token: &mut Token,
     lane: usize,
     key: Key,
     want: &Want,
     change: &Change,
 ) -> Result<Reply, PutFault>
-    requires table { token.old.table_id ≡ row.now.table_id }
-    requires lane { lane < row.now.key.seats }
-    requires words { row.now.table_id.words ≡ 8 * row.now.key.seats }
-    requires few { row.now.key.seats ≤ 256 }
-    requires slots { row.now.table_id.slots ≡ row.now.key.seats }
+    requires table { token.old.table_id ≡ hall.now.table.shared.table_id }
+    requires lane { lane < hall.now.table.shared.key.seats }
     requires idle { IsIdleGuest lane token.old.me }
     ensures table { token.new.table_id ≡ token.old.table_id }
     ensures idle { IsIdleGuest lane token.new.me }
@@ -67,22 +62,24 @@ pub(crate) fn write_through<R: Wait>(
         (call.Write key want.now change.now) there.seat back.seat (Tries (2 ^ 32 - 1))
         (replied_or_refused result)) token.old.me.0.account token.new.me.0.account }
 {
-    hold(rt, row, token, lane);
-    let Some(handle) = token.slot_mut(row, lane) else {
+    hold(rt, hall, token, lane);
+    let Some(handle) = token.slot_mut(&hall.table.shared, lane) else {
         unreachable!();
     };
     let reply = handle.put_if_match(key, *want, *change, u32::MAX);
-    give_back::<Coming>(row, token, lane);
+    give_back::<Coming>(hall, token, lane);
     reply
 }
 
 /// How full the map is.
-pub(crate) fn look_through<R: Wait>(rt: &R, row: &Row, token: &mut Token, lane: usize) -> Occupancy
-    requires table { token.old.table_id ≡ row.now.table_id }
-    requires lane { lane < row.now.key.seats }
-    requires words { row.now.table_id.words ≡ 8 * row.now.key.seats }
-    requires few { row.now.key.seats ≤ 256 }
-    requires slots { row.now.table_id.slots ≡ row.now.key.seats }
+pub(crate) fn look_through<R: Wait>(
+    rt: &R,
+    hall: &Hall,
+    token: &mut Token,
+    lane: usize,
+) -> Occupancy
+    requires table { token.old.table_id ≡ hall.now.table.shared.table_id }
+    requires lane { lane < hall.now.table.shared.key.seats }
     requires idle { IsIdleGuest lane token.old.me }
     ensures table { token.new.table_id ≡ token.old.table_id }
     ensures idle { IsIdleGuest lane token.new.me }
@@ -90,11 +87,11 @@ pub(crate) fn look_through<R: Wait>(rt: &R, row: &Row, token: &mut Token, lane: 
     ensures visited { HasVisited lane (λ there back. HasSampled there.map there.seat back.seat
         result) token.old.me.0.account token.new.me.0.account }
 {
-    hold(rt, row, token, lane);
-    let Some(handle) = token.slot_mut(row, lane) else {
+    hold(rt, hall, token, lane);
+    let Some(handle) = token.slot_mut(&hall.table.shared, lane) else {
         unreachable!();
     };
     let found = handle.occupancy();
-    give_back::<Coming>(row, token, lane);
+    give_back::<Coming>(hall, token, lane);
     found
 }

@@ -10,17 +10,17 @@ join_handles-whole-requires g c = record {
   single = all-single (length c.args.guests.items) c.take_all_as_guests-handles.new.token.me.0.map
       c.take_all_as_guests-handles.new.token.me.0.filled c.take_all_as_guests-handles.new.token.me.0.past
       c.take_all_as_guests-handles.ensures.gathered.holds.knew c.take_all_as_guests-handles.result.items
-      (subst (λ n. 1 ≤ n) (sym c.requires.all.count) c.requires.some)
-      (subst (λ n. n ≤ 256) (sym c.requires.all.count) c.requires.few)
+      (subst (λ n. 1 ≤ n) (sym c.requires.all.count) c.args.hall.now.some)
+      (subst (λ n. n ≤ 256) (sym c.requires.all.count) c.args.hall.now.few)
       c.take_all_as_guests-handles.ensures.gathered.holds.held;
 }
 
 pub unreachable-requires : goal.unreachable-requires
 unreachable-requires g c =
-    let some = subst (λ n. 1 ≤ n) (sym c.requires.all.count) c.requires.some in
-    let few = subst (λ n. n ≤ 256) (sym c.requires.all.count) c.requires.few in
+    let some = subst (λ n. 1 ≤ n) (sym c.requires.all.count) c.args.hall.now.some in
+    let few = subst (λ n. n ≤ 256) (sym c.requires.all.count) c.args.hall.now.few in
     let seated = subst (λ n. FitsLanes n c.take_all_as_guests-handles.new.token.me.0)
-    (c.requires.slots ∙ sym c.requires.all.count) (c.take_all_as_guests-handles.ensures.seated some) in
+    (sym c.requires.all.count) (c.take_all_as_guests-handles.ensures.seated some) in
     let holds = c.take_all_as_guests-handles.ensures.gathered.holds in
     let me = c.take_all_as_guests-handles.new.token.me in
     let handles = c.take_all_as_guests-handles.result.items in
@@ -34,9 +34,9 @@ unreachable-requires g c =
 
 pub returns : goal.returns
 returns g c =
-    let some = subst (λ n. 1 ≤ n) (sym c.requires.all.count) c.requires.some in
+    let some = subst (λ n. 1 ≤ n) (sym c.requires.all.count) c.args.hall.now.some in
     let seated = subst (λ n. FitsLanes n c.take_all_as_guests-handles.new.token.me.0)
-    (c.requires.slots ∙ sym c.requires.all.count) (c.take_all_as_guests-handles.ensures.seated some) in
+    (sym c.requires.all.count) (c.take_all_as_guests-handles.ensures.seated some) in
     have-ended (length c.args.guests.items) c.args.guests.items c.take_all_as_guests-handles.new.token.me
     c.take_all_as_guests-handles.result.items c.join_handles-whole.result.0 c.in-Ok.ended
     c.take_all_as_guests-handles.ensures.gathered seated some refl c.join_handles-whole.ensures.seats

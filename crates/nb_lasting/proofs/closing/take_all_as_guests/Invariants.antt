@@ -9,6 +9,6 @@ invariant-loop-guest g l =
     (goal.iterator-loop-guest g).can_next l.guest-iterator
     × (goal.iterator-loop-guest g).is_finite l.guest-iterator
     × (l.token.table_id ≡ l.fn.token.table_id)
-    × (l.fn.row.key.seats ≤ vec_capacity l.handles)
-    × (1 ≤ length l.handles.items → FitsLanes l.fn.row.table_id.slots l.token.me.0)
+    × (l.fn.hall.table.shared.key.seats ≤ vec_capacity l.handles)
+    × (1 ≤ length l.handles.items → FitsLanes l.fn.hall.table.shared.key.seats l.token.me.0)
     × HaveComeTo l.fn.guests.items (into_iter_items l.guest-iterator) l.token.me l.handles.items

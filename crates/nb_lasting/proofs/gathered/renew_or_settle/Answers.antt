@@ -8,9 +8,9 @@ settle_in-requires c = record {
   room =
       omega (
         arith,
-        kept-long c.args.whole.now c.renew-renewed.new.self
-            (if-refused c.renew-renewed.result (sym c.is_err.ensures.value ∙ c.if-is_err.true)
-            c.renew-renewed.ensures.kept),
+        kept-long c.args.whole.now c.renew_whole-renewed.new.whole
+            (if-refused c.renew_whole-renewed.result (sym c.is_err.ensures.value ∙ c.if-is_err.true)
+            c.renew_whole-renewed.ensures.kept),
         c.requires.settling,
       );
 }
@@ -19,7 +19,7 @@ pub unreachable-requires : goal.unreachable-requires
 unreachable-requires c =
     never-both c.settle_in.result c.in_default.field-0 c.in_default.is
     (c.settle_in.ensures.all.1
-    (still-whole c.args.whole.now c.renew-renewed.new.self
-    (if-refused c.renew-renewed.result (sym c.is_err.ensures.value ∙ c.if-is_err.true)
-    c.renew-renewed.ensures.kept)
+    (still-whole c.args.whole.now c.renew_whole-renewed.new.whole
+    (if-refused c.renew_whole-renewed.result (sym c.is_err.ensures.value ∙ c.if-is_err.true)
+    c.renew_whole-renewed.ensures.kept)
     c.requires.whole))

@@ -1,4 +1,4 @@
-use Rattle.std.proofs.Common.{◌∙◌, ◌+◌, ◌++◌, ◌∷◌, [], ap, arith, length, length-append, subst, sym}
+use Rattle.std.proofs.Common.{◌∙◌, ◌++◌, ◌∷◌, [], ap, arith, length, length-append, subst, sym}
 use Rattle.std.specs.Prelude.{Err}
 use Rattle.nb_lasting.proofs.Joined.{ArePartedFrom, all-parted, none-parted, one-parted}
 use Rattle.nb_lasting.proofs.gathered.split_handle.Goals as goal

@@ -9,7 +9,7 @@ exchange-requires c =
 
 pub give_back-requires-clause-may : goal.give_back-requires-clause-may
 give_back-requires-clause-may c =
-    may-deal c.args.row.now.key c.args.row.now.table_id.slots c.args.lane c.exchange.new.seat.id
+    may-deal c.args.hall.now.table.shared.key c.args.hall.now.table.shared.table_id.slots c.args.lane c.exchange.new.seat.id
     c.exchange.new.seat.me c.requires.lane
     (can-deal c.args.lane c.args.token.now.me c.exchange.new.seat.me c.exchange.new.seat.me
     c.pop.new.self.items c.args.handles.now.items c.in-Some.handle c.in-Some.ensures.items

@@ -10,23 +10,23 @@ exchange-requires c =
 
 pub give_back-requires-clause-may : goal.give_back-requires-clause-may
 give_back-requires-clause-may c =
-    may-renew c.args.row.now.key c.args.row.now.table_id.slots c.args.lane c.exchange.new.seat.id
+    may-renew c.args.hall.now.table.shared.key c.args.hall.now.table.shared.table_id.slots c.args.lane c.exchange.new.seat.id
     c.exchange.new.seat.me (omega (arith, c.requires.lane))
     (can-renew c.args.lane c.args.token.now.me c.exchange.new.seat.me c.exchange.new.seat.me
     c.pop.new.self.items c.args.handles.now.items c.in-Some.handle c.in-Some.ensures.items
-    c.exchange.ensures.3 c.args.row.now.key c.requires.lane c.requires.holds)
+    c.exchange.ensures.3 c.args.hall.now.table.shared.key c.requires.lane c.requires.holds)
 
 pub returns-clause-map : goal.returns-clause-map
 returns-clause-map c can =
     begun-map c.args.lane c.args.token.now.me c.exchange.new.seat.me c.give_back.new.token.me
     c.pop.new.self.items c.args.handles.now.items c.in-Some.handle c.in-Some.ensures.items
-    c.exchange.ensures.3 c.args.row.now.key.keys can c.give_back.ensures.given.1
+    c.exchange.ensures.3 c.args.hall.now.table.shared.key.keys can c.give_back.ensures.given.1
 
 pub returns-clause-holds : goal.returns-clause-holds
 returns-clause-holds c =
     begun c.args.lane c.args.token.now.me c.exchange.new.seat.me c.give_back.new.token.me
     c.pop.new.self.items c.args.handles.now.items c.in-Some.handle c.in-Some.ensures.items
-    c.exchange.ensures.3 c.args.row.now.key.keys c.requires.holds c.give_back.ensures.given.1
+    c.exchange.ensures.3 c.args.hall.now.table.shared.key.keys c.requires.holds c.give_back.ensures.given.1
 
 pub returns-clause-begun : goal.returns-clause-begun
 returns-clause-begun c = record {

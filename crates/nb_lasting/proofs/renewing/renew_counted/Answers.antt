@@ -1,19 +1,24 @@
-use Rattle.std.proofs.Common.{◌≡◌, ◌∙◌, ◌*◌, ◌<◌, ◌≤◌, ◌^◌, Err, ap, arith, inl, inr, max, refl, subst, sym}
+use Rattle.std.proofs.Common.{◌≡◌, ◌∙◌, ◌*◌, ◌<◌, ◌≤◌, ◌^◌, ap, arith, inl, inr, max, refl, subst, sym}
 use Rattle.nb_core.specs.Log.{log_of}
+use Rattle.nb_map.specs.Handles.{seats_of}
+use Rattle.nb_lasting.specs.Gathered.{IsPartedCounted, parts_of}
 use Rattle.nb_lasting.specs.Renewal.{HoldsStill}
 use Rattle.nb_lasting.specs.Lasting.{HasSlots, shape_made_for}
 use Rattle.nb_lasting.proofs.Counted.{called-home, can-come-home, full-home, made-anew, nothing-seen, one-log, room-anew, room-left, still-by, still-holds}
-use Rattle.nb_lasting.proofs.Dealt.{still-dealt, still-single}
+use Rattle.nb_lasting.proofs.Dealt.{all-of-map, still-dealt, still-single}
 use Rattle.nb_lasting.proofs.Homes.{home-seen}
+use Rattle.nb_lasting.proofs.Renewed.{each-parted}
 use Rattle.nb_lasting.proofs.Sizes.{slots_fewer}
 use Rattle.nb_lasting.specs.inside.Guests.{hall_of}
 use Rattle.nb_lasting.proofs.renewing.renew_counted.Goals as goal
 
-pub counted-handles-requires : goal.counted-handles-requires
-counted-handles-requires g c = record {
+pub join_counted-whole-requires : goal.join_counted-whole-requires
+join_counted-whole-requires g c = record {
   single = still-single c.args.hall.now.table.shared.key.seats c.args.token.now.me
       c.args.handles.items
       c.args.hall.now.some c.args.hall.now.few c.requires.holds;
+  all = all-of-map c.args.hall.now.table.shared.key.seats c.args.token.now.me
+      c.args.handles.items c.args.hall.now.some c.requires.seated c.requires.holds;
 }
 
 pub deal_all-requires-clause-holds : goal.deal_all-requires-clause-holds
@@ -21,43 +26,52 @@ deal_all-requires-clause-holds g c =
     let n = c.args.hall.now.table.shared.key.seats in
     let me = c.args.token.now.me in
     let before = c.args.handles.items in
-    let after = c.counted-handles.result.0.items in
+    let after = c.split_handle.result.items in
     let some = c.args.hall.now.some in
     let few = c.args.hall.now.few in
     let holds = c.requires.holds in
-    let result = c.counted-handles.result.1 in
-    let is = c.counted-handles.ensures in
+    let result = c.join_counted-whole.result.2 in
+    let is = subst (λ hs. IsPartedCounted before hs result) (sym c.split_handle.ensures)
+    c.join_counted-whole.ensures.counted in
     let still = (still-by n me before after some few holds result is).0 in
     still-dealt n me after (still-holds n me before after some few holds still)
 
-pub all_home-requires-clause-holds : goal.all_home-requires-clause-holds
-all_home-requires-clause-holds g c =
+pub all_home-requires : goal.all_home-requires
+all_home-requires g c =
     let n = c.args.hall.now.table.shared.key.seats in
     let me = c.args.token.now.me in
     let before = c.args.handles.items in
-    let after = c.counted-handles.result.0.items in
+    let after = c.split_handle-then-size-ge-GREATEST.result.items in
     let some = c.args.hall.now.some in
     let few = c.args.hall.now.few in
     let holds = c.requires.holds in
-    let result = c.counted-handles.result.1 in
-    let is = c.counted-handles.ensures in
-    let still = (still-by n me before after some few holds result is).0 in (
-      log_of (still.know c.args.own),
-      can-come-home n me before after some few holds still c.args.own c.requires.guest
-          c.requires.own,
-    )
+    let result = c.join_counted-whole.result.2 in
+    let is = subst (λ hs. IsPartedCounted before hs result)
+    (sym c.split_handle-then-size-ge-GREATEST.ensures) c.join_counted-whole.ensures.counted in
+    let still = (still-by n me before after some few holds result is).0 in
+    record {
+      table = c.requires.table;
+      lanes = omega (arith, still.held.count);
+      own = omega (arith, still.held.count, c.requires.own);
+      holds = (
+        log_of (still.know c.args.own),
+        can-come-home n me before after some few holds still c.args.own c.requires.guest
+            c.requires.own,
+      );
+    }
 
 pub returns-then-size-ge-GREATEST-clause-called : goal.returns-then-size-ge-GREATEST-clause-called
 returns-then-size-ge-GREATEST-clause-called g c =
     let n = c.args.hall.now.table.shared.key.seats in
     let me = c.args.token.now.me in
     let before = c.args.handles.items in
-    let after = c.counted-handles.result.0.items in
+    let after = c.split_handle-then-size-ge-GREATEST.result.items in
     let some = c.args.hall.now.some in
     let few = c.args.hall.now.few in
     let holds = c.requires.holds in
-    let result = c.counted-handles.result.1 in
-    let is = c.counted-handles.ensures in
+    let result = c.join_counted-whole.result.2 in
+    let is = subst (λ hs. IsPartedCounted before hs result)
+    (sym c.split_handle-then-size-ge-GREATEST.ensures) c.join_counted-whole.ensures.counted in
     let still = (still-by n me before after some few holds result is).0 in
     called-home n me before after some few holds still c.args.own c.requires.guest c.requires.own
     me.0
@@ -68,12 +82,13 @@ returns-then-size-ge-GREATEST-clause-full g c full =
     let n = c.args.hall.now.table.shared.key.seats in
     let me = c.args.token.now.me in
     let before = c.args.handles.items in
-    let after = c.counted-handles.result.0.items in
+    let after = c.split_handle-then-size-ge-GREATEST.result.items in
     let some = c.args.hall.now.some in
     let few = c.args.hall.now.few in
     let holds = c.requires.holds in
-    let result = c.counted-handles.result.1 in
-    let is = c.counted-handles.ensures in
+    let result = c.join_counted-whole.result.2 in
+    let is = subst (λ hs. IsPartedCounted before hs result)
+    (sym c.split_handle-then-size-ge-GREATEST.ensures) c.join_counted-whole.ensures.counted in
     let great : 2 ^ 28 ≤ c.in-Ok.size = omega (arith, c.if-size-ge-GREATEST.true) in
     full-home n me before after some few holds result is c.in-Ok.size c.in-Ok.is c.args.own
     c.requires.guest c.requires.own c.all_home.new.token.me.0 c.all_home.ensures.seen great
@@ -83,12 +98,12 @@ renew_all-requires-clause-holds g c =
     let n = c.args.hall.now.table.shared.key.seats in
     let me = c.args.token.now.me in
     let before = c.args.handles.items in
-    let after = c.counted-handles.result.0.items in
+    let after = parts_of c.join_counted-whole.result.0 in
     let some = c.args.hall.now.some in
     let few = c.args.hall.now.few in
     let holds = c.requires.holds in
-    let result = c.counted-handles.result.1 in
-    let is = c.counted-handles.ensures in
+    let result = c.join_counted-whole.result.2 in
+    let is = c.join_counted-whole.ensures.counted in
     let still = (still-by n me before after some few holds result is).0 in
     subst (λ k. HoldsStill k me after)
     (sym (c.shape_for-shape.ensures.seats ∙ c.slot_count.ensures ∙ c.args.hall.now.slots))
@@ -97,44 +112,45 @@ renew_all-requires-clause-holds g c =
 pub renew_all-requires-clause-settled : goal.renew_all-requires-clause-settled
 renew_all-requires-clause-settled g c =
     one-log c.args.hall.now.table.shared.key.seats c.args.token.now.me c.args.handles.items
-    c.counted-handles.result.0.items c.args.hall.now.some c.args.hall.now.few c.requires.holds
-    c.counted-handles.result.1 c.counted-handles.ensures c.in-Ok.size c.in-Ok.is
+    (parts_of c.join_counted-whole.result.0) c.args.hall.now.some c.args.hall.now.few
+    c.requires.holds c.join_counted-whole.result.2 c.join_counted-whole.ensures.counted c.in-Ok.size c.in-Ok.is
 
-pub renew_all-requires-clause-room : goal.renew_all-requires-clause-room
-renew_all-requires-clause-room g c =
+pub renew_all-requires-clause-slots : goal.renew_all-requires-clause-slots
+renew_all-requires-clause-slots g c =
     slots_fewer c.shape_for-shape.result c.args.hall.now.table.shared.key.keys c.max-keys.result
     (omega (arith, c.max-keys.ensures, c.args.hall.now.anew)) c.shape_for-shape.ensures.slots
 
-pub unreachable-requires : goal.unreachable-requires
-unreachable-requires g c =
+pub renew_all-requires-clause-fits : goal.renew_all-requires-clause-fits
+renew_all-requires-clause-fits g c many =
+    let whole = c.join_counted-whole.result.0 in
     let n = c.args.hall.now.table.shared.key.seats in
     let me = c.args.token.now.me in
     let before = c.args.handles.items in
-    let after = c.counted-handles.result.0.items in
+    let after = parts_of c.join_counted-whole.result.0 in
     let some = c.args.hall.now.some in
     let few = c.args.hall.now.few in
     let holds = c.requires.holds in
-    let result = c.counted-handles.result.1 in
-    let is = c.counted-handles.ensures in
+    let result = c.join_counted-whole.result.2 in
+    let is = c.join_counted-whole.ensures.counted in
     let less : c.in-Ok.size < 2 ^ 28 = omega (arith, c.if-size-ge-GREATEST.false) in
     let fewer : c.in-Ok.size ≤ c.max-keys.result =
     omega (arith, c.saturating_mul.ensures, c.max-keys.ensures, c.if-size-ge-GREATEST.false) in
     room-left n me before after some few holds result is c.in-Ok.size c.in-Ok.is
     c.shape_for-shape.result c.max-keys.result less fewer
     c.shape_for-shape.ensures.slots
-    (c.renew_all.ensures.full (c.in-Err-Full.is ∙ ap Err c.in-Err-Full.field-0-is))
+    (whole, sym (each-parted whole.map (seats_of whole)), many)
 
 pub returns-in-Ok-renew_all-clause-anew : goal.returns-in-Ok-renew_all-clause-anew
 returns-in-Ok-renew_all-clause-anew g c =
     let n = c.args.hall.now.table.shared.key.seats in
     let me = c.args.token.now.me in
     let before = c.args.handles.items in
-    let after = c.counted-handles.result.0.items in
+    let after = parts_of c.join_counted-whole.result.0 in
     let twice : c.max-keys.result ≡ max (2 * c.in-Ok.size) c.args.hall.now.least =
     omega (arith, c.saturating_mul.ensures, c.max-keys.ensures, c.if-size-ge-GREATEST.false) in
     room-anew n me before after c.args.hall.now.some c.args.hall.now.few c.requires.holds
-    c.counted-handles.result.1 c.counted-handles.ensures c.in-Ok.size c.in-Ok.is c.args.own
-    c.requires.guest c.requires.own c.max-keys.result c.args.hall.now.least twice
+    c.join_counted-whole.result.2 c.join_counted-whole.ensures.counted c.in-Ok.size c.in-Ok.is
+    c.args.own c.requires.guest c.requires.own c.max-keys.result c.args.hall.now.least twice
     c.renew_all.new.token.me.0
     (subst (HasSlots c.max-keys.result) (sym c.in-Ok-renew_all.ensures.anew)
     c.shape_for-shape.ensures.slots)
@@ -144,11 +160,11 @@ returns-in-Ok-renew_all-clause-made g c =
     let n = c.args.hall.now.table.shared.key.seats in
     let me = c.args.token.now.me in
     let before = c.args.handles.items in
-    let after = c.counted-handles.result.0.items in
+    let after = parts_of c.join_counted-whole.result.0 in
     let twice : c.max-keys.result ≡ max (2 * c.in-Ok.size) c.args.hall.now.least =
     omega (arith, c.saturating_mul.ensures, c.max-keys.ensures, c.if-size-ge-GREATEST.false) in
     made-anew n me before after c.args.hall.now.some c.args.hall.now.few c.requires.holds
-    c.counted-handles.result.1 c.counted-handles.ensures c.in-Ok.size c.in-Ok.is
+    c.join_counted-whole.result.2 c.join_counted-whole.ensures.counted c.in-Ok.size c.in-Ok.is
     c.shape_for-shape.result c.max-keys.result (hall_of c.args.hall.now)
     (twice ∙ ap (max (2 * c.in-Ok.size)) c.args.hall.now.anew)
     c.shape_for-shape.ensures.slots
@@ -184,8 +200,11 @@ returns-then-size-ge-GREATEST-clause-still g c =
     let n = c.args.hall.now.table.shared.key.seats in
     let me = c.args.token.now.me in
     let before = c.args.handles.items in
-    let after = c.counted-handles.result.0.items in
+    let after = c.split_handle-then-size-ge-GREATEST.result.items in
+    let result = c.join_counted-whole.result.2 in
+    let is = subst (λ hs. IsPartedCounted before hs result)
+    (sym c.split_handle-then-size-ge-GREATEST.ensures) c.join_counted-whole.ensures.counted in
     let still = (still-by n me before after c.args.hall.now.some c.args.hall.now.few
-    c.requires.holds c.counted-handles.result.1 c.counted-handles.ensures).0 in
+    c.requires.holds result is).0 in
     inr (inl (home-seen me.0.map me.0.filled me.0.past n c.requires.holds.knew after c.args.own
     me.0.account c.all_home.new.token.me.0.account still c.all_home.ensures.home))

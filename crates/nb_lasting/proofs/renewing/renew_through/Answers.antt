@@ -1,8 +1,7 @@
-use Rattle.std.proofs.Common.{◌∙◌, ap, arith, inl, inr, refl, subst}
+use Rattle.std.proofs.Common.{ap, inl, inr, refl}
 use Rattle.std.specs.Prelude.{Option}
 use Rattle.atomic_table.specs.Table.{Me}
 use Rattle.nb_map.specs.Handles.{HandleOf}
-use Rattle.nb_lasting.specs.Renewal.{HoldsStill}
 use Rattle.nb_lasting.specs.declared.shared.LaneView.{LaneView}
 use Rattle.nb_lasting.specs.inside.Guests.{hall_of}
 use Rattle.nb_lasting.proofs.Dealt.{as-held, held-still}
@@ -11,25 +10,22 @@ use Rattle.nb_lasting.proofs.renewing.renew_through.Goals as goal
 
 pub deal_all-requires-clause-holds : goal.deal_all-requires-clause-holds
 deal_all-requires-clause-holds g c =
-    as-held c.slot_count-seats.result c.take_all_handles.new.token.me c.in_ok-handles.handles.items
-    c.in_ok-handles.ensures.holds
+    as-held c.args.hall.now.table.shared.key.seats c.take_all_handles.new.token.me
+    c.in_ok-handles.handles.items c.in_ok-handles.ensures.holds
 
 pub renew_counted-requires-clause-holds : goal.renew_counted-requires-clause-holds
 renew_counted-requires-clause-holds g c =
-    subst (λ n. HoldsStill n c.take_all_handles.new.token.me c.in_ok-handles.handles.items)
-    (c.slot_count-seats.ensures ∙ c.args.hall.now.slots)
-    (held-still c.slot_count-seats.result c.take_all_handles.new.token.me c.in_ok-handles.handles.items
-    c.in_ok-handles.ensures.holds)
+    held-still c.args.hall.now.table.shared.key.seats c.take_all_handles.new.token.me
+    c.in_ok-handles.handles.items c.in_ok-handles.ensures.holds
 
 pub returns-then-load-renewals-clause-round : goal.returns-then-load-renewals-clause-round
 returns-then-load-renewals-clause-round g c =
     inr (
       c.in_ok-handles.handles.items,
       c.take_all_handles.new.token.me.0.account,
-      taken-all (hall_of c.args.hall.now) c.slot_count-seats.result c.args.token.now.me.0.account
+      taken-all (hall_of c.args.hall.now) c.args.token.now.me.0.account
           c.take_all_handles.new.token.me c.in_ok-handles.handles.items
-          (c.slot_count-seats.ensures ∙ c.args.hall.now.slots) c.in_ok-handles.ensures.holds
-          c.in_ok-handles.ensures.taken,
+          c.in_ok-handles.ensures.holds c.in_ok-handles.ensures.taken,
       inl (inl c.deal_all.ensures.account),
     )
 
@@ -38,14 +34,12 @@ returns-clause-round g c =
     inr (
       c.in_ok-handles.handles.items,
       c.take_all_handles.new.token.me.0.account,
-      taken-all (hall_of c.args.hall.now) c.slot_count-seats.result c.args.token.now.me.0.account
+      taken-all (hall_of c.args.hall.now) c.args.token.now.me.0.account
           c.take_all_handles.new.token.me c.in_ok-handles.handles.items
-          (c.slot_count-seats.ensures ∙ c.args.hall.now.slots) c.in_ok-handles.ensures.holds
-          c.in_ok-handles.ensures.taken,
-      back-by c.renew_counted.result (hall_of c.args.hall.now) c.args.own c.slot_count-seats.result
-          c.take_all_handles.new.token.me c.in_ok-handles.handles.items
-          c.renew_counted.new.token.me.0.account
-          (omega (arith, c.slot_count-seats.ensures, c.args.hall.now.slots, c.requires.own))
+          c.in_ok-handles.ensures.holds c.in_ok-handles.ensures.taken,
+      back-by c.renew_counted.result (hall_of c.args.hall.now) c.args.own
+          c.args.hall.now.table.shared.key.seats c.take_all_handles.new.token.me
+          c.in_ok-handles.handles.items c.renew_counted.new.token.me.0.account c.requires.own
           c.in_ok-handles.ensures.holds c.renew_counted.ensures.made
           c.renew_counted.ensures.still,
     )

@@ -9,8 +9,8 @@ invariant-loop-lane g l = record {
   table : l.token.table_id ≡ l.fn.token.table_id;
   guest : IsSameGuest l.fn.token.me.0 l.token.me.0;
   account : l.token.me.0.account ≡ took_all l.handles.items l.fn.token.me.0.account;
-  room : l.fn.seats ≤ vec_capacity l.handles;
+  room : l.fn.hall.table.shared.key.seats ≤ vec_capacity l.handles;
   count : length l.handles.items ≡ l.lane;
-  seated : 1 ≤ l.lane → FitsLanes l.fn.row.table_id.slots l.token.me.0;
+  seated : 1 ≤ l.lane → FitsLanes l.fn.hall.table.shared.key.seats l.token.me.0;
   holds : HoldsBelow l.lane l.token.me l.handles.items;
 }

@@ -1,4 +1,4 @@
-use Rattle.std.proofs.Common.{◌≡◌, ◌∙◌, ◌<◌, ◌≤◌, [], Err, ap, arith, false, inl, inr, refl, subst, sym, true}
+use Rattle.std.proofs.Common.{◌≡◌, ◌∙◌, [], Err, ap, false, inl, inr, refl, subst, sym, true}
 use Rattle.std.specs.Prelude.{Option}
 use Rattle.atomic_table.specs.Table.{Me}
 use Rattle.nb_core.specs.Log.{log_of}
@@ -7,7 +7,6 @@ use Rattle.nb_map.specs.Handles.{HandleOf}
 use Rattle.nb_map.specs.declared.faults.PutFault.TheVariants as put_fault
 use Rattle.nb_lasting.specs.Holding.{HasTriedOnAs, HasTriedIn}
 use Rattle.nb_lasting.specs.Lasting.{as_write_fault}
-use Rattle.nb_lasting.specs.Renewal.{HoldsStill}
 use Rattle.nb_lasting.specs.Shared.{known_of}
 use Rattle.nb_lasting.specs.declared.faults.WriteFault.TheVariants as fault
 use Rattle.nb_lasting.specs.declared.shared.LaneView.{LaneView}
@@ -19,38 +18,33 @@ use Rattle.nb_lasting.proofs.renewing.write_or_renew.Goals as goal
 
 pub renew_counted-requires-clause-holds : goal.renew_counted-requires-clause-holds
 renew_counted-requires-clause-holds g c =
-    let n = c.slot_count-seats.result in
+    let n = c.args.hall.now.table.shared.key.seats in
     let me = c.take_all_handles.new.token.me in
     let before = c.in_ok-handles.handles.items in
     let after = c.write_by-reply.new.handles.items in
     let call = Write c.args.key c.args.want.now c.args.change.now in
     let result = c.write_by-reply.result in
     let holds = c.in_ok-handles.ensures.holds in
-    let some : 1 ≤ c.slot_count-seats.result =
-    omega (arith, c.slot_count-seats.ensures, c.args.hall.now.slots, c.args.hall.now.some) in
+    let some = c.args.hall.now.some in
     let guest = c.take_all_handles.ensures.guest.guest ∙ c.requires.idle.guest in
-    let below : c.args.own < c.slot_count-seats.result =
-    omega (arith, c.slot_count-seats.ensures, c.args.hall.now.slots, c.requires.own) in
+    let below = c.requires.own in
     let wrote = c.write_by-reply.ensures in
     let full : c.write_by-reply.result ≡ Err put_fault.Full =
     c.found_full.ensures.0 c.if-found_full.true in
-    subst (λ k. HoldsStill k me after) (c.slot_count-seats.ensures ∙ c.args.hall.now.slots)
-    (full-still n c.args.own me before after call result holds some guest below wrote full)
+    full-still n c.args.own me before after call result holds some guest below wrote full
 
 pub returns-in_err-renew_counted-clause-tried : goal.returns-in_err-renew_counted-clause-tried
 returns-in_err-renew_counted-clause-tried g c =
-    let n = c.slot_count-seats.result in
+    let n = c.args.hall.now.table.shared.key.seats in
     let me = c.take_all_handles.new.token.me in
     let before = c.in_ok-handles.handles.items in
     let after = c.write_by-reply.new.handles.items in
     let call = Write c.args.key c.args.want.now c.args.change.now in
     let result = c.write_by-reply.result in
     let holds = c.in_ok-handles.ensures.holds in
-    let some : 1 ≤ c.slot_count-seats.result =
-    omega (arith, c.slot_count-seats.ensures, c.args.hall.now.slots, c.args.hall.now.some) in
+    let some = c.args.hall.now.some in
     let guest = c.take_all_handles.ensures.guest.guest ∙ c.requires.idle.guest in
-    let below : c.args.own < c.slot_count-seats.result =
-    omega (arith, c.slot_count-seats.ensures, c.args.hall.now.slots, c.requires.own) in
+    let below = c.requires.own in
     let wrote = c.write_by-reply.ensures in
     let full : c.write_by-reply.result ≡ Err put_fault.Full =
     c.found_full.ensures.0 c.if-found_full.true in
@@ -68,18 +62,16 @@ returns-in_err-renew_counted-clause-tried g c =
 
 pub all_home-requires-clause-holds : goal.all_home-requires-clause-holds
 all_home-requires-clause-holds g c =
-    let n = c.slot_count-seats.result in
+    let n = c.args.hall.now.table.shared.key.seats in
     let me = c.take_all_handles.new.token.me in
     let before = c.in_ok-handles.handles.items in
     let after = c.write_by-reply.new.handles.items in
     let call = Write c.args.key c.args.want.now c.args.change.now in
     let result = c.write_by-reply.result in
     let holds = c.in_ok-handles.ensures.holds in
-    let some : 1 ≤ c.slot_count-seats.result =
-    omega (arith, c.slot_count-seats.ensures, c.args.hall.now.slots, c.args.hall.now.some) in
+    let some = c.args.hall.now.some in
     let guest = c.take_all_handles.ensures.guest.guest ∙ c.requires.idle.guest in
-    let below : c.args.own < c.slot_count-seats.result =
-    omega (arith, c.slot_count-seats.ensures, c.args.hall.now.slots, c.requires.own) in
+    let below = c.requires.own in
     let wrote = c.write_by-reply.ensures in (
       log_of (known_of me.0.filled me.0.past wrote.new.seat),
       wrote-home n c.args.own me before after call result holds some guest below wrote,
@@ -87,18 +79,16 @@ all_home-requires-clause-holds g c =
 
 pub returns-clause-tried : goal.returns-clause-tried
 returns-clause-tried g c =
-    let n = c.slot_count-seats.result in
+    let n = c.args.hall.now.table.shared.key.seats in
     let me = c.take_all_handles.new.token.me in
     let before = c.in_ok-handles.handles.items in
     let after = c.write_by-reply.new.handles.items in
     let call = Write c.args.key c.args.want.now c.args.change.now in
     let result = c.write_by-reply.result in
     let holds = c.in_ok-handles.ensures.holds in
-    let some : 1 ≤ c.slot_count-seats.result =
-    omega (arith, c.slot_count-seats.ensures, c.args.hall.now.slots, c.args.hall.now.some) in
+    let some = c.args.hall.now.some in
     let guest = c.take_all_handles.ensures.guest.guest ∙ c.requires.idle.guest in
-    let below : c.args.own < c.slot_count-seats.result =
-    omega (arith, c.slot_count-seats.ensures, c.args.hall.now.slots, c.requires.own) in
+    let below = c.requires.own in
     let wrote = c.write_by-reply.ensures in
     subst (HasTriedIn c.args.own c.args.token.now.me.0 c.all_home.new.token.me.0 call)
     (sym c.tried.ensures)
@@ -134,11 +124,11 @@ returns-in_err-renew_counted-clause-on g c =
     (inr (
       c.in_ok-handles.handles.items,
       c.take_all_handles.new.token.me.0.account,
-      taken-all (hall_of c.args.hall.now) c.slot_count-seats.result old c.take_all_handles.new.token.me
-          c.in_ok-handles.handles.items (c.slot_count-seats.ensures ∙ c.args.hall.now.slots)
-          c.in_ok-handles.ensures.holds c.in_ok-handles.ensures.taken,
-      home-still c.args.own c.slot_count-seats.result c.take_all_handles.new.token.me c.in_ok-handles.handles.items new
-          (omega (arith, c.slot_count-seats.ensures, c.args.hall.now.slots, c.requires.own))
+      taken-all (hall_of c.args.hall.now) old c.take_all_handles.new.token.me
+          c.in_ok-handles.handles.items c.in_ok-handles.ensures.holds
+          c.in_ok-handles.ensures.taken,
+      home-still c.args.own c.args.hall.now.table.shared.key.seats
+          c.take_all_handles.new.token.me c.in_ok-handles.handles.items new c.requires.own
           c.in_ok-handles.ensures.holds c.in_err-renew_counted.ensures.still,
     ))
 
@@ -147,9 +137,8 @@ returns-then-found_full-clause-on g c =
     let old = c.args.token.now.me.0.account in
     goes-anew (Write c.args.key c.args.want.now c.args.change.now) c.args.own
     (hall_of c.args.hall.now) old c.in_ok-handles.handles.items c.take_all_handles.new.token.me.0.account
-    (taken-all (hall_of c.args.hall.now) c.slot_count-seats.result old c.take_all_handles.new.token.me
-    c.in_ok-handles.handles.items (c.slot_count-seats.ensures ∙ c.args.hall.now.slots) c.in_ok-handles.ensures.holds
-    c.in_ok-handles.ensures.taken)
+    (taken-all (hall_of c.args.hall.now) old c.take_all_handles.new.token.me
+    c.in_ok-handles.handles.items c.in_ok-handles.ensures.holds c.in_ok-handles.ensures.taken)
     c.renew_counted.new.token.me.0.account c.in_ok-renew_counted.ensures.made
 
 pub returns-clause-on : goal.returns-clause-on
@@ -161,8 +150,8 @@ returns-clause-on g c =
     subst (HasTriedOnAs call c.args.own of old new) (sym c.tried.ensures)
     (goes-with-all call c.args.own of old c.in_ok-handles.handles.items
     c.take_all_handles.new.token.me.0.account
-    (taken-all of c.slot_count-seats.result old c.take_all_handles.new.token.me c.in_ok-handles.handles.items
-    (c.slot_count-seats.ensures ∙ c.args.hall.now.slots) c.in_ok-handles.ensures.holds c.in_ok-handles.ensures.taken)
+    (taken-all of old c.take_all_handles.new.token.me c.in_ok-handles.handles.items
+    c.in_ok-handles.ensures.holds c.in_ok-handles.ensures.taken)
     c.write_by-reply.new.handles.items new c.write_by-reply.result c.write_by-reply.ensures
     c.all_home.ensures.home (λ full.
     absurd (let wrong : true ≡ false = sym (c.found_full.ensures.1 full)

@@ -9,6 +9,6 @@ invariant-loop-i g l = record {
   same : l.guests ≡ l.fn.guests;
   room : length l.fn.guests ≤ vec_capacity l.handles;
   count : length l.handles.items ≡ l.i;
-  seated : 1 ≤ l.i → FitsLanes l.fn.row.table_id.slots l.token.me.0;
+  seated : 1 ≤ l.i → FitsLanes l.fn.hall.table.shared.key.seats l.token.me.0;
   come : HaveComeTo l.fn.guests (drop l.i l.fn.guests) l.token.me l.handles.items;
 }

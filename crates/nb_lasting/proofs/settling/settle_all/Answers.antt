@@ -30,7 +30,7 @@ settle-requires-clause-table c =
     let at = next-settles n k c.requires.can.0 c.args.guests.now c.loop-done.guests
     c.index-guests-count.result more within
     (c.loop-done.invariant.settled c.requires.can.0 c.requires.can.1).1 in (
-      at-all (λ (g : GuestOf). g.of.id ≡ c.args.row.now.table_id) c.args.guests.now k guest
+      at-all (λ (g : GuestOf). g.of.id ≡ c.args.hall.now.table.shared.table_id) c.args.guests.now k guest
           c.requires.all.of at,
       c.loop-done.invariant.table ∙ c.requires.table,
     )

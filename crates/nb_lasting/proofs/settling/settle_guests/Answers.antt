@@ -5,7 +5,7 @@ use Rattle.nb_lasting.specs.Guests.{GoesOnTo, GuestOf, with_log}
 use Rattle.nb_lasting.specs.Settling.{CanSettle}
 use Rattle.nb_lasting.specs.Shared.{FitsLanes}
 use Rattle.nb_lasting.proofs.Counted.{if-ok, still-by, still-holds}
-use Rattle.nb_lasting.proofs.Dealt.{held-knew, held-still, still-dealt, still-single}
+use Rattle.nb_lasting.proofs.Dealt.{all-of-map, held-knew, held-still, still-dealt, still-single}
 use Rattle.nb_lasting.proofs.Renewed.{AreCountedIn}
 use Rattle.nb_lasting.proofs.Settled.{can-settle, have-settled, settled-log}
 use Rattle.nb_lasting.proofs.settling.settle_guests.Goals as goal
@@ -17,6 +17,11 @@ counted-handles-requires g c =
     let few : n ≤ 256 = omega (arith, c.requires.all.count, c.args.hall.now.few) in
     record {
       single = still-single n c.lend_all.new.token.me c.in_ok-handles.handles.items some few
+          (held-still n c.lend_all.new.token.me c.in_ok-handles.handles.items
+          c.in_ok-handles.ensures.gathered.holds);
+      all = all-of-map n c.lend_all.new.token.me c.in_ok-handles.handles.items some
+          (subst (λ k. FitsLanes k c.lend_all.new.token.me.0) (sym c.requires.all.count)
+          c.in_ok-handles.ensures.seated)
           (held-still n c.lend_all.new.token.me c.in_ok-handles.handles.items
           c.in_ok-handles.ensures.gathered.holds);
     }
@@ -75,7 +80,7 @@ returns-in-Ok-clause-settled g c =
     (can-settle n me before after c.in-Ok.size some holds known.0 counts) in
     have-settled n me before after c.in-Ok.size some holds known.0 counts c.args.guests.now
     c.settle_all.new.guests refl
-    (subst (λ k. FitsLanes k me.0) (c.args.hall.now.slots ∙ sym c.requires.all.count)
+    (subst (λ k. FitsLanes k me.0) (sym c.requires.all.count)
     c.in_ok-handles.ensures.seated)
     (λ i guest at.
     let was = have.current i guest at in (

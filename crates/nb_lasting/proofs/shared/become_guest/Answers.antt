@@ -7,7 +7,7 @@ join_seat-requires c = (
   c.requires.table.0,
   c.requires.table.1,
   c.requires.idle.1,
-  omega (arith, c.requires.words),
-  merges c.args.row.now.key c.args.token.now.id c.args.other.id c.args.token.now.me.0
+  omega (arith, c.args.hall.now.words, c.args.hall.now.some),
+  merges c.args.hall.now.table.shared.key c.args.token.now.id c.args.other.id c.args.token.now.me.0
       c.args.other.me.0 c.requires.idle.0,
 )

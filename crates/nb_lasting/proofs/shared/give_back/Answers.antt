@@ -3,7 +3,7 @@ use Rattle.nb_lasting.proofs.shared.give_back.Goals as goal
 
 pub swap-requires : goal.swap-requires
 swap-requires g c =
-    (c.requires.table, omega (arith, c.requires.lane, c.requires.words), c.requires.may)
+    (c.requires.table, omega (arith, c.requires.lane, c.args.hall.now.words), c.requires.may)
 
 pub returns-then-swap-eq-AWAITED-clause-given : goal.returns-then-swap-eq-AWAITED-clause-given
 returns-then-swap-eq-AWAITED-clause-given g c = (c.swap.result, c.swap.ensures.2)

@@ -20,7 +20,7 @@ pub give_back-requires-clause-may : goal.give_back-requires-clause-may
 give_back-requires-clause-may g c =
     let same = taken-is c.args.lane c.args.token.now.me c.hold.new.token.me c.hold.ensures.taken
     c.slot_mut.result.now c.in-Some.handle c.slot_mut.ensures.value c.in-Some.is in
-    may-give c.args.row.now.key c.args.row.now.table_id.slots c.args.lane _ _ c.requires.lane
+    may-give c.args.hall.now.table.shared.key c.args.hall.now.table.shared.table_id.slots c.args.lane _ _ c.requires.lane
     (can-give c.args.lane c.args.token.now.me c.hold.new.token.me c.hold.ensures.taken
     c.occupancy-found.new.self [] c.requires.idle
     (subst (λ h. KeepsRest h c.occupancy-found.new.self) (sym same) c.occupancy-found.ensures.rest)

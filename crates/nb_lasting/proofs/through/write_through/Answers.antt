@@ -29,7 +29,7 @@ give_back-requires-clause-may g c =
     c.put_if_match-reply.ensures.wrote in
     let made = made_in (Write c.args.key c.args.want.now c.args.change.now)
     c.put_if_match-reply.result in
-    may-give c.args.row.now.key c.args.row.now.table_id.slots c.args.lane _ _ c.requires.lane
+    may-give c.args.hall.now.table.shared.key c.args.hall.now.table.shared.table_id.slots c.args.lane _ _ c.requires.lane
     (can-give c.args.lane c.args.token.now.me c.hold.new.token.me c.hold.ensures.taken
     c.put_if_match-reply.new.self made c.requires.idle
     (subst (λ h. KeepsRest h c.put_if_match-reply.new.self) (sym same)
