@@ -47,45 +47,30 @@ deal_renewed-requires g c =
     c.renew_or_settle-renewed.result is in
     record { table = c.requires.table; lanes = done.0 ∙ seats; anew = done.1.0 }
 
-pub returns-clause-anew : goal.returns-clause-anew
-returns-clause-anew g c =
+pub returns : goal.returns
+returns g c =
     let seats = c.requires.shape in
-    let is = parted-anew c.args.shape c.args.whole c.renew_or_settle-renewed.new.whole
-    c.split_handle.result.items c.renew_or_settle-renewed.result c.split_handle.ensures
-    c.renew_or_settle-renewed.ensures.renewed c.renew_or_settle-renewed.ensures.rested in
-    let done = deals c.args.shape c.args.token.now.me (parts_of c.args.whole)
-    c.split_handle.result.items (subst (λ n. 1 ≤ n) (sym seats) c.args.hall.now.some)
+    let me = c.args.token.now.me in
+    let renewed = c.renew_or_settle-renewed.result in
+    let after = c.split_handle.result.items in
+    let some = subst (λ n. 1 ≤ n) (sym seats) c.args.hall.now.some in
+    let is = parted-anew c.args.shape c.args.whole c.renew_or_settle-renewed.new.whole after renewed
+    c.split_handle.ensures c.renew_or_settle-renewed.ensures.renewed
+    c.renew_or_settle-renewed.ensures.rested in
+    let done = deals c.args.shape me (parts_of c.args.whole) after some
     (subst (λ n. n ≤ 256) (sym seats) c.args.hall.now.few) c.requires.seated c.requires.holds
-    c.requires.settled c.args.hall.now.table.shared.key.keys c.requires.slots
-    c.renew_or_settle-renewed.result is in
-    done_ok c.renew_or_settle-renewed.result (λ shaped.
-    ap (λ (m : MapOf). m.chain.shape) (c.deal_renewed.ensures.map done.1.0) ∙ shaped) done.1.1
-
-pub returns-clause-again : goal.returns-clause-again
-returns-clause-again g c =
-    let seats = c.requires.shape in
-    let is = parted-anew c.args.shape c.args.whole c.renew_or_settle-renewed.new.whole
-    c.split_handle.result.items c.renew_or_settle-renewed.result c.split_handle.ensures
-    c.renew_or_settle-renewed.ensures.renewed c.renew_or_settle-renewed.ensures.rested in
-    let done = deals c.args.shape c.args.token.now.me (parts_of c.args.whole)
-    c.split_handle.result.items (subst (λ n. 1 ≤ n) (sym seats) c.args.hall.now.some)
-    (subst (λ n. n ≤ 256) (sym seats) c.args.hall.now.few) c.requires.seated c.requires.holds
-    c.requires.settled c.args.hall.now.table.shared.key.keys c.requires.slots
-    c.renew_or_settle-renewed.result is in
-    begun-in c.renew_or_settle-renewed.result c.args.hall.now.table.shared.key.keys
-    (length c.split_handle.result.items) c.args.token.now.me c.split_handle.result.items done.1.0
-    c.args.token.now.me.0.account c.deal_renewed.new.token.me.0.account done.1.2
-    c.deal_renewed.ensures.begun
-
-pub returns-clause-begun : goal.returns-clause-begun
-returns-clause-begun g c =
-    let me = c.args.token.now.me.0 in
-    let holds = c.requires.holds in
-    begun-as c.args.shape c.args.shape.seats me.map me.filled me.past holds.still.know
-    (parts_of c.args.whole) c.split_handle.result.items me.account
-    c.deal_renewed.new.token.me.0.account c.renew_or_settle-renewed.result
-    (subst (λ n. 1 ≤ n) (sym c.requires.shape) c.args.hall.now.some) holds.still.held
-    (parted-anew c.args.shape c.args.whole c.renew_or_settle-renewed.new.whole
-    c.split_handle.result.items c.renew_or_settle-renewed.result c.split_handle.ensures
-    c.renew_or_settle-renewed.ensures.renewed c.renew_or_settle-renewed.ensures.rested)
-    c.deal_renewed.ensures.begun
+    c.requires.settled c.args.hall.now.table.shared.key.keys c.requires.slots renewed is in
+    record {
+      table = c.deal_renewed.ensures.table;
+      guest = c.deal_renewed.ensures.guest;
+      again = begun-in renewed c.args.hall.now.table.shared.key.keys (length after) me after done.1.0
+          me.0.account c.deal_renewed.new.token.me.0.account done.1.2 c.deal_renewed.ensures.begun;
+      begun = begun-as c.args.shape c.args.shape.seats me.0.map me.0.filled me.0.past
+          c.requires.holds.still.know (parts_of c.args.whole) after me.0.account
+          c.deal_renewed.new.token.me.0.account renewed some c.requires.holds.still.held is
+          c.deal_renewed.ensures.begun;
+      idle = c.deal_renewed.ensures.idle;
+      anew = done_ok renewed (λ shaped.
+          ap (λ (m : MapOf). m.chain.shape) (c.deal_renewed.ensures.map done.1.0) ∙ shaped)
+          done.1.1;
+    }

@@ -1,7 +1,6 @@
-use Rattle.std.proofs.Common.{◌≡◌, ◌∙◌, ap, length, refl, subst, sym, arith}
+use Rattle.std.proofs.Common.{◌∙◌, ap, length, refl, sym, arith}
 use Rattle.nb_lasting.proofs.Dealt.{holds-none}
 use Rattle.nb_lasting.proofs.Grown.{took-snoc}
-use Rattle.nb_lasting.specs.Renewal.{HoldsBelow}
 use Rattle.nb_lasting.specs.Visits.{took, took_all}
 use Rattle.nb_lasting.proofs.renewing.take_all_handles.Goals as goal
 
@@ -42,27 +41,3 @@ loop-lane-preserved g c =
       seated = λ _. is.seated;
       holds = is.holds;
     }
-
-pub returns-clause-seated : goal.returns-clause-seated
-returns-clause-seated g c =
-    c.loop-lane.invariant.seated
-    (omega (
-      arith,
-      c.loop-lane-test.false,
-      c.slot_count-seats.ensures,
-      c.args.hall.now.slots,
-      c.args.hall.now.some,
-    ))
-
-pub returns-clause-holds : goal.returns-clause-holds
-returns-clause-holds g c =
-    let all : c.loop-lane.lane ≡ c.args.hall.now.table.shared.key.seats =
-    omega (
-      arith,
-      c.loop-lane-test.false,
-      c.loop-lane.auto.lane-end,
-      c.slot_count-seats.ensures,
-      c.args.hall.now.slots,
-    ) in
-    subst (λ n. HoldsBelow n c.loop-lane.token.me c.loop-lane.handles.items) all
-    c.loop-lane.invariant.holds
