@@ -122,6 +122,30 @@ fn churn_once<R: Threads + Sync + Wait + Clock + Eprint>(
     Ok(do_job(rt, alloc, options, places, &job, places.len())?.tally)
 }
 
+/// Makes rounds until the time is up, or until a map is full, and keeps how long each of them took whose
+/// map wasn't. It answers the last one.
+fn make_rounds<R: Threads + Sync + Wait + Clock + Eprint>(
+    rt: &R,
+    alloc: Global,
+    options: &Options,
+    places: &[u32],
+    times: &mut Vec<u64>,
+) -> Result<Tally, WorkFault> {
+    let mut last = Tally::NOTHING;
+    let mut watch = Watch::start(rt, options.time, options.progress)?;
+    for _round in 0..u64::MAX {
+        last = churn_once(rt, alloc, options, places)?;
+        if last.is_full {
+            break;
+        }
+        times.push(last.nanoseconds)?;
+        if watch.is_over(rt)? {
+            break;
+        }
+    }
+    Ok(last)
+}
+
 /// Makes rounds until the time is up, and answers the one with the middle time; or until a map is
 /// full, and answers that round.
 pub(crate) fn measure<R: Threads + Sync + Wait + Clock + Eprint>(
@@ -131,21 +155,12 @@ pub(crate) fn measure<R: Threads + Sync + Wait + Clock + Eprint>(
 ) -> Result<Tally, WorkFault> {
     let places = in_order(alloc, Churn::new(options).start_count())?;
     let mut times = Vec::new(alloc);
-    let mut calls = 0;
-    let mut watch = Watch::start(rt, options.time, options.progress)?;
-    for _round in 0..u64::MAX {
-        let churned = churn_once(rt, alloc, options, places.as_slice())?;
-        if churned.is_full {
-            return Ok(churned);
-        }
-        calls = churned.calls;
-        times.push(churned.nanoseconds)?;
-        if watch.is_over(rt)? {
-            break;
-        }
+    let last = make_rounds(rt, alloc, options, places.as_slice(), &mut times)?;
+    if last.is_full {
+        return Ok(last);
     }
     Ok(Tally {
-        calls,
+        calls: last.calls,
         nanoseconds: middle_of(times)?,
         ..Tally::NOTHING
     })

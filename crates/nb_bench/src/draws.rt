@@ -1,4 +1,6 @@
-//! Calls at keys that are drawn, for a while.
+//! Calls at keys that are drawn, for a while. Seats call in loops that have the map and its seat apart,
+//! so that a call loads nothing more than it needs.
+ghost use Rattle.nb_map.specs.Maps.{IsMine};
 
 use crate::callers::Caller;
 use crate::crew::{Job, Worker};
@@ -9,6 +11,7 @@ use crate::timing::Watch;
 use crate::workloads::Mix;
 use nb_core::{Key, Num};
 use nb_lines::ProgressMeter;
+use nb_map::{Map, Seat};
 use std::rt::Clock;
 use std::sync::Wait;
 use std::time::Duration;
@@ -145,21 +148,21 @@ fn call_batch<R: Wait, C: Caller>(
     let random = &mut source.random;
     match (job.calls, job.spacing) {
         (Calls::Mixed, Spacing::Dense) => {
-            draw_batch(rt, caller, random, job.mix, &Dense { count })
+            caller.draw_batch(rt, random, job.mix, &Dense { count })
         }
         (Calls::Mixed, Spacing::Spread) => {
-            draw_batch(rt, caller, random, job.mix, &Spread { count })
+            caller.draw_batch(rt, random, job.mix, &Spread { count })
         }
         (Calls::Sampled(samples), _) => {
             let places = source.next_batch(samples);
-            draw_batch(rt, caller, &mut source.random, job.mix, &Listed { places })
+            caller.draw_batch(rt, &mut source.random, job.mix, &Listed { places })
         }
-        (Calls::OneKey, _) => put_batch(rt, caller, job.spacing),
+        (Calls::OneKey, _) => caller.put_batch(rt, job.spacing.key(ONE_PLACE)),
     }
 }
 
 /// Which keys a batch calls at.
-trait Pick {
+pub(crate) trait Pick {
     /// The key of the call of a turn, from 0 on, for which this number was drawn.
     fn key(&self, turn: u64, drawn: u64) -> Key;
 }
@@ -168,6 +171,24 @@ trait Pick {
 /// than the rest of a division.
 fn place_of(drawn: u64, count: u64) -> u32 {
     ((drawn & 0xffff_ffff).wrapping_mul(count) >> 32) as u32
+}
+
+/// From 0 to 99, each as likely, by the upper half of a drawn number.
+#[inline(always)]
+pub(crate) fn percent_of(drawn: u64) -> u64 {
+    (drawn >> 32).wrapping_mul(100) >> 32
+}
+
+/// What is put where this number was drawn.
+#[inline(always)]
+pub(crate) fn number_of(drawn: u64) -> Num {
+    number((drawn >> 32) as u32)
+}
+
+/// The two numbers that are put at one key, by turns.
+#[inline(always)]
+pub(crate) fn by_turns(round: u64) -> Num {
+    number((round % 2) as u32)
 }
 
 /// So many dense keys, each as likely.
@@ -207,44 +228,53 @@ impl Pick for Listed<'_> {
     }
 }
 
-/// Makes a batch of calls at the keys that `pick` picks. It answers the sum of what the gets read.
-/// Each kind of keys has a loop of its own, which doesn't ask for the kind.
-fn draw_batch<R: Wait, C: Caller, P: Pick>(
+/// Makes a batch of calls by a seat of this map: [`Caller::draw_batch`].
+pub(crate) fn draw_by_seat<R: Wait, P: Pick>(
     rt: &R,
-    caller: &mut C,
+    map: &Map,
+    seat: &mut Seat,
     random: &mut Random,
     mix: Mix,
     pick: &P,
-) -> Result<u64, WorkFault> {
+) -> Result<u64, WorkFault>
+    requires own { IsMine map.now seat.old }
+    ensures own { IsMine map.now seat.new }
+{
     let removals_from = mix.gets.wrapping_add(mix.puts);
     let mut row = *random;
     let mut sum = 0u64;
     for turn in 0..BATCH {
         let drawn = row.draw();
         let key = pick.key(turn, drawn);
-        // From 0 to 99, by the upper half of what was drawn.
-        let percent = (drawn >> 32).wrapping_mul(100) >> 32;
+        let percent = percent_of(drawn);
         if percent < mix.gets {
-            sum = sum.wrapping_add(caller.get(rt, key).map_or(0, Num::get));
+            sum = sum.wrapping_add(map.get(seat, key).map_or(0, Num::get));
         } else if percent < removals_from {
-            caller.put(rt, key, number((drawn >> 32) as u32))?;
+            if map.put(rt, seat, key, number_of(drawn)).is_err() {
+                return Err(WorkFault::Full);
+            }
         } else {
-            caller.remove(rt, key);
+            map.remove(rt, seat, key);
         }
     }
     *random = row;
     Ok(sum)
 }
 
-/// Makes a batch of puts at one key, by turns of two numbers.
-fn put_batch<R: Wait, C: Caller>(
+/// Makes a batch of puts by a seat of this map: [`Caller::put_batch`].
+pub(crate) fn put_by_seat<R: Wait>(
     rt: &R,
-    caller: &mut C,
-    spacing: Spacing,
-) -> Result<u64, WorkFault> {
-    let key = spacing.key(ONE_PLACE);
+    map: &Map,
+    seat: &mut Seat,
+    key: Key,
+) -> Result<u64, WorkFault>
+    requires own { IsMine map.now seat.old }
+    ensures own { IsMine map.now seat.new }
+{
     for round in 0..BATCH {
-        caller.put(rt, key, number((round % 2) as u32))?;
+        if map.put(rt, seat, key, by_turns(round)).is_err() {
+            return Err(WorkFault::Full);
+        }
     }
     Ok(0)
 }

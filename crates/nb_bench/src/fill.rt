@@ -1,7 +1,7 @@
 //! Many keys: maps with room for so many are made, filled and read.
 
 use crate::faults::WorkFault;
-use crate::growth::{Pass, pass_once};
+use crate::growth::{Pass, time_pass};
 use crate::keys::shuffled;
 use crate::options::Options;
 use crate::seats::MapSeat;
@@ -64,21 +64,6 @@ fn time_make<R: Clock>(rt: &R, alloc: Global, options: &Options) -> Result<u64, 
     spent
 }
 
-/// Makes a pass on a new map, and answers its time.
-fn time_pass<R: Threads + Sync + Wait + Clock + Eprint>(
-    rt: &R,
-    alloc: Global,
-    options: &Options,
-    pass: Pass,
-    places: &[u32],
-) -> Result<u64, WorkFault> {
-    Ok(
-        pass_once(rt, alloc, options, pass, places)?
-            .tally
-            .nanoseconds,
-    )
-}
-
 /// Measures each once.
 fn time_once<R: Threads + Sync + Wait + Clock + Eprint>(
     rt: &R,
@@ -96,19 +81,29 @@ fn time_once<R: Threads + Sync + Wait + Clock + Eprint>(
 
 /// Measures each on maps made anew, again and again until the time is up, and answers the shortest
 /// of its times.
+fn time_rounds<R: Threads + Sync + Wait + Clock + Eprint>(
+    rt: &R,
+    alloc: Global,
+    options: &Options,
+    places: &[u32],
+) -> Result<Times, WorkFault> {
+    let mut times = Times::NONE;
+    let mut watch = Watch::start(rt, options.time, options.progress)?;
+    for _round in 0..u64::MAX {
+        times = times.min(time_once(rt, alloc, options, places)?);
+        if watch.is_over(rt)? {
+            break;
+        }
+    }
+    Ok(times)
+}
+
+/// Measures each on maps for all keys.
 pub(crate) fn measure<R: Threads + Sync + Wait + Clock + Eprint>(
     rt: &R,
     alloc: Global,
     options: &Options,
 ) -> Result<Times, WorkFault> {
     let places = shuffled(alloc, options.keys)?;
-    let mut times = Times::NONE;
-    let mut watch = Watch::start(rt, options.time, options.progress)?;
-    for _round in 0..u64::MAX {
-        times = times.min(time_once(rt, alloc, options, places.as_slice())?);
-        if watch.is_over(rt)? {
-            break;
-        }
-    }
-    Ok(times)
+    time_rounds(rt, alloc, options, places.as_slice())
 }

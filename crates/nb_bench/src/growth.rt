@@ -148,7 +148,7 @@ fn timed_put<R: Wait + Clock, C: Caller>(
 }
 
 /// Makes a pass on a new map. One of gets finds numbers at the keys with these places.
-pub(crate) fn pass_once<R: Threads + Sync + Wait + Clock + Eprint>(
+fn pass_once<R: Threads + Sync + Wait + Clock + Eprint>(
     rt: &R,
     alloc: Global,
     options: &Options,
@@ -200,6 +200,31 @@ pub(crate) fn middle_of(times: Vec<u64>) -> Result<u64, WorkFault> {
     Ok(within(times.as_slice(), 500))
 }
 
+/// Makes a pass on a new map, and answers its time.
+pub(crate) fn time_pass<R: Threads + Sync + Wait + Clock + Eprint>(
+    rt: &R,
+    alloc: Global,
+    options: &Options,
+    pass: Pass,
+    places: &[u32],
+) -> Result<u64, WorkFault> {
+    let done = pass_once(rt, alloc, options, pass, places)?;
+    Ok(done.tally.nanoseconds)
+}
+
+/// How long each put takes in a new map, the shortest times first.
+fn time_each<R: Threads + Sync + Wait + Clock + Eprint>(
+    rt: &R,
+    alloc: Global,
+    options: &Options,
+    places: &[u32],
+) -> Result<Vec<u64>, WorkFault> {
+    let Done { times, .. } = pass_once(rt, alloc, options, Pass::TimedPuts, places)?;
+    let mut times = times;
+    times.sort()?;
+    Ok(times)
+}
+
 /// A round: how long all puts take in a new map, and in another one how long a put takes.
 fn time_round<R: Threads + Sync + Wait + Clock + Eprint>(
     rt: &R,
@@ -207,12 +232,9 @@ fn time_round<R: Threads + Sync + Wait + Clock + Eprint>(
     options: &Options,
     places: &[u32],
 ) -> Result<Times, WorkFault> {
-    let whole = pass_once(rt, alloc, options, Pass::Puts, places)?
-        .tally
-        .nanoseconds;
-    let mut timed = pass_once(rt, alloc, options, Pass::TimedPuts, places)?;
-    timed.times.sort()?;
-    let times = timed.times.as_slice();
+    let whole = time_pass(rt, alloc, options, Pass::Puts, places)?;
+    let times = time_each(rt, alloc, options, places)?;
+    let times = times.as_slice();
     Ok([
         whole,
         within(times, 500),

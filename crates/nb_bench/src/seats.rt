@@ -3,7 +3,10 @@ ghost use Rattle.std.specs.Arc.{arc_value};
 ghost use Rattle.nb_map.specs.Maps.{AreMine};
 
 use crate::callers::Caller;
+use crate::draws::{Pick, draw_by_seat, put_by_seat};
 use crate::faults::WorkFault;
+use crate::random::Random;
+use crate::workloads::Mix;
 use nb_core::{Key, Num, OutOfMemory, Shape};
 use nb_map::{Map, Seat};
 use std::alloc::Global;
@@ -78,5 +81,19 @@ impl Caller for MapSeat {
     #[inline(always)]
     fn remove<R: Wait>(&mut self, rt: &R, key: Key) {
         self.map.remove(rt, &mut self.seat, key);
+    }
+
+    fn draw_batch<R: Wait, P: Pick>(
+        &mut self,
+        rt: &R,
+        random: &mut Random,
+        mix: Mix,
+        pick: &P,
+    ) -> Result<u64, WorkFault> {
+        draw_by_seat(rt, &self.map, &mut self.seat, random, mix, pick)
+    }
+
+    fn put_batch<R: Wait>(&mut self, rt: &R, key: Key) -> Result<u64, WorkFault> {
+        put_by_seat(rt, &self.map, &mut self.seat, key)
     }
 }

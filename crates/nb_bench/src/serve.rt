@@ -107,12 +107,18 @@ where
     }
 }
 
+/// The options that the command line gives.
+fn options_given<R: Env + AllocGlobal>(rt: &R) -> Result<Options, WordsFault> {
+    let given = LINE.given(rt)?;
+    read_options(rt.alloc(), &given)
+}
+
 /// Reads the options and runs what they ask for.
 fn attend<R>(rt: &R, progress: ProgressMeter) -> Result<(), BenchFault>
 where
     R: Env + Files + Threads + Sync + Wait + Clock + Print + Eprint + AllocGlobal,
 {
-    let mut options = read_options(rt.alloc(), &LINE.given(rt)?)?;
+    let mut options = options_given(rt)?;
     options.progress = progress;
     let ran = run(rt, rt.alloc(), &options);
     progress.end(rt);

@@ -1,7 +1,7 @@
 -- Clues to lines, and the readers that found them.
-use Rattle.std.proofs.Common.{◌≡◌, ◌≢◌, ◌∙◌, ℕ, true, false, List, [], ◌∷◌, ◌++◌, All, Option, Some, ap, append-nil, append_assoc, arith, length, length-append, map, refl, reverse, subst, subst₂, sym}
+use Rattle.std.proofs.Common.{◌≡◌, ◌≢◌, ◌∙◌, ℕ, true, false, Err, List, [], ◌∷◌, ◌++◌, All, IfOk, Ok, Option, Result, Some, ap, append-nil, append_assoc, arith, length, length-append, map, refl, reverse, subst, subst₂, sym}
 use Rattle.std.specs.List.{AllZip}
-use Rattle.std.specs.Prelude.{Contains, slice_get}
+use Rattle.std.specs.Prelude.{Contains, IsOk, OnOk, slice_get}
 use Rattle.std.proofs.lemmas.List.{length-map, length-reverse, map-append, reverse-append}
 use Rattle.std.proofs.lemmas.List.Elements.{All-append, All-cons, All-head, All-nil, All-push, All-tail, All-weaker, Contains-append_left, Contains-append_right}
 use Rattle.nb_core.specs.Plans.{Plan}
@@ -108,6 +108,17 @@ pub clues-both :
 clues-both hashing texts lines front back first second all parts are one two =
     subst₂ (AreCluesTo hashing texts) (sym parts) (sym are)
     (zip-append (IsClueTo hashing texts) front first back second one two)
+
+-- what is made of two results, if it is of both
+pub both-made :
+    {A E : Type 0} (first second made : Result A E) (P Q W : A → Type 0) (R : A → A → A → Type 0)
+    → OnOk made (IsOk first × IsOk second)
+    → IfOk first (λ one. IfOk second (λ two. IfOk made (R one two))) → IfOk first P → IfOk second Q
+    → ((one two all : A) → P one → Q two → R one two all → W all) → IfOk made W
+both-made (Ok one) (Ok two) (Ok all) P Q W R ok are p q step = step one two all p q are
+both-made (Ok one) (Err e) (Ok all) P Q W R ok are p q step = let no : false ≡ true = ok.1 in absurd cc
+both-made (Err e) second (Ok all) P Q W R ok are p q step = let no : false ≡ true = ok.0 in absurd cc
+both-made first second (Err e) P Q W R ok are p q step = tt
 
 -- one more reader is parted from a handle
 pub parted-more :

@@ -1,5 +1,5 @@
 //! What is known of a block's lines before they are entered, found by several threads.
-ghost use Rattle.std.specs.Prelude.{◌≡◌, ◌≤◌, ◌++◌, IfOk, length, map};
+ghost use Rattle.std.specs.Prelude.{◌≡◌, ◌≤◌, ◌++◌, IfOk, IsOk, OnOk, length, map};
 ghost use Rattle.std.specs.Thread.{IsSync};
 ghost use Rattle.nb_texts.specs.Clues.{AreCluesTo, HasOnlyLooked, HaveOnlyLooked, IsClueTo};
 ghost use Rattle.nb_texts.specs.Hashes.{hash_of};
@@ -84,14 +84,20 @@ fn found_by_all<R: Threads + Sync>(
                 × HaveOnlyLooked others.entry.now others.exit.now }
         { found_by_all(rt, alloc, texts, hashing, back, others) },
     );
-    both(first?, second?)
+    both(first, second)
 }
 
-/// Clues to the lines of two texts, one behind the other.
-fn both(first: Vec<Clue>, second: Vec<Clue>) -> Result<Vec<Clue>, OutOfMemory>
-    ensures { IfOk result (λ clues. clues.items ≡ first.items ++ second.items) }
+/// Clues to the lines of two texts, one behind the other, where there are clues to both.
+fn both(
+    first: Result<Vec<Clue>, OutOfMemory>,
+    second: Result<Vec<Clue>, OutOfMemory>,
+) -> Result<Vec<Clue>, OutOfMemory>
+    ensures ok { OnOk result (IsOk first × IsOk second) }
+    ensures clues { IfOk first (λ front. IfOk second (λ back.
+        IfOk result (λ clues. clues.items ≡ front.items ++ back.items))) }
 {
-    let mut clues = first;
+    let mut clues = first?;
+    let second = second?;
     clues.extend_from_slice(second.as_slice())?;
     Ok(clues)
 }

@@ -3,9 +3,9 @@ ghost use Rattle.std.specs.List.{filter};
 ghost use Rattle.std.specs.Prelude.{◌≡◌, ◌*◌, ◌<◌, ◌≤◌, ◌++◌, ◌∷◌, ◌↔◌, [], ℕ, IfErr, IfOk, IsTrue, List, OnOk, if◌then◌else◌, length, map, min, nat_lt};
 ghost use Rattle.nb_core.specs.declared.shapes.TheConstants.{MOST_KEYS};
 ghost use Rattle.nb_lines.specs.declared.faults.ProgramFault.TheVariants as fault;
-ghost use Rattle.nb_texts.specs.Catalogs.{IsNoRoom};
+ghost use Rattle.nb_texts.specs.Catalogs.{IsAtRest, IsNoRoom};
 ghost use Rattle.nb_texts.specs.Forgetting.{IsMiddle, lines_above};
-ghost use Rattle.nb_texts.specs.Lines.{text_of_lines};
+ghost use Rattle.nb_texts.specs.Lines.{lines_in, text_of_lines, with_new_lines};
 ghost use Rattle.nb_texts.specs.Tallies.{IsTally};
 
 use crate::catalog::Catalog;
@@ -95,15 +95,54 @@ impl LineTally {
         ensures full { result ≡ Err fault.FullOfLines
             → min self.catalog.room MOST_KEYS < length self.catalog.texts }
     {
-        let cut = middle_of(alloc, self.counts.as_slice())?;
-        let Kept { text, counts } = kept_above(alloc, &self, cut)?;
+        let (cut, kept) = kept_of(alloc, &self)?;
         let room = self.catalog.room;
         drop(self);
-        let mut catalog = Catalog::open(alloc, plan.hashing, room, plan.limit)?;
-        catalog.enter(rt, alloc, text.as_slice(), plan.workers)?;
+        let Kept { text, counts } = kept;
+        let catalog = catalog_of(rt, alloc, plan, room, text.as_slice())?;
         let tally = LineTally { catalog, counts };
         Ok(Forgotten { tally, cut })
     }
+}
+
+/// The middle one of a tally's counts, and the lines whose counts are above it.
+fn kept_of(alloc: Global, tally: &LineTally) -> Result<(u64, Kept), OutOfMemory>
+    requires many { length tally.now.counts.items ≡ length tally.now.catalog.texts }
+    ensures cut { IfOk result (λ of. IsMiddle tally.now.counts.items of.0) }
+    ensures text { IfOk result (λ of. (times : List ℕ → ℕ)
+        → tally.now.counts.items ≡ map times tally.now.catalog.texts
+        → of.1.text.items
+        ≡ text_of_lines (filter (λ line. nat_lt of.0 (times line)) tally.now.catalog.texts)) }
+    ensures counts { IfOk result (λ of. (times : List ℕ → ℕ)
+        → tally.now.counts.items ≡ map times tally.now.catalog.texts
+        → of.1.counts.items
+        ≡ map times (filter (λ line. nat_lt of.0 (times line)) tally.now.catalog.texts)) }
+{
+    let cut = middle_of(alloc, tally.counts.as_slice())?;
+    let kept = kept_above(alloc, tally, cut)?;
+    Ok((cut, kept))
+}
+
+/// A new catalog with room for so many lines at first, of the lines of a text.
+fn catalog_of<R: Threads + Sync + Wait>(
+    rt: &R,
+    alloc: Global,
+    plan: LinePlan,
+    room: usize,
+    text: &[u8],
+) -> Result<Catalog, ProgramFault>
+    ensures rest { IfOk result IsAtRest }
+    ensures lines { IfOk result (λ catalog.
+        catalog.texts ≡ with_new_lines [] (lines_in text.now)) }
+    ensures room { IfOk result (λ catalog. catalog.room ≡ min room MOST_KEYS) }
+    ensures hashing { IfOk result (λ catalog. catalog.hashing ≡ plan.hashing) }
+    ensures errors { IfErr result IsNoRoom }
+    ensures full { result ≡ Err fault.FullOfLines
+        → min room MOST_KEYS < length (with_new_lines [] (lines_in text.now)) }
+{
+    let mut catalog = Catalog::open(alloc, plan.hashing, room, plan.limit)?;
+    catalog.enter(rt, alloc, text, plan.workers)?;
+    Ok(catalog)
 }
 
 /// The count in the middle, if they stand in their order; 0 where there is none.

@@ -7,6 +7,7 @@ ghost use Rattle.nb_texts.specs.Lines.{lines_in};
 ghost use Rattle.nb_texts.specs.Sources.{HasCut, HasTakenIn, IsBlock, IsInOneLine, IsReadFault};
 
 use memchr::memrchr;
+use nb_core::OutOfMemory;
 use nb_lines::{Done, ProgramFault};
 use std::alloc::Global;
 use std::io::{ErrorKind, Read};
@@ -88,22 +89,41 @@ impl LineSource {
         ensures room { length self.new.room.items ≡ length self.old.room.items }
         ensures errors { IfErr result IsReadFault }
     {
-        self.block.clear();
-        self.block.extend_from_slice(self.rest.as_slice())?;
-        self.rest.clear();
+        self.begin_block()?;
         for _ in rt.forever() {
-            match read_on(
-                reader,
-                self.room.as_mut_slice(),
-                &mut self.block,
-                &mut self.rest,
-            )? {
+            match self.read_on(reader)? {
                 Turn::Cut => return Ok(true),
                 Turn::Ended => return Ok(!self.block.is_empty()),
                 Turn::More => {}
             }
         }
         unreachable!()
+    }
+
+    /// The next block begins with what came behind the last one.
+    fn begin_block(&mut self) -> Result<(), OutOfMemory>
+        ensures block { OnOk result (self.new.block.items ≡ self.old.rest.items) }
+        ensures rest { OnOk result (self.new.rest.items ≡ []) }
+        ensures room { self.new.room ≡ self.old.room }
+    {
+        self.block.clear();
+        self.block.extend_from_slice(self.rest.as_slice())?;
+        self.rest.clear();
+        Ok(())
+    }
+
+    /// Reads what is there behind the block: [`read_behind`].
+    fn read_on<I: Read>(&mut self, reader: &mut I) -> Result<Turn, ProgramFault>
+        requires none { self.old.rest.items ≡ [] }
+        requires some { 1 ≤ length self.old.room.items }
+        ensures taken { IfOk result (HasTakenIn (length self.old.room.items)
+            (I.remaining reader.old) (I.remaining reader.new) self.old.block.items
+            self.new.block.items self.new.rest.items) }
+        ensures room { length self.new.room.items ≡ length self.old.room.items }
+        ensures errors { IfErr result IsReadFault }
+    {
+        let room = self.room.as_mut_slice();
+        read_behind(reader, room, &mut self.block, &mut self.rest)
     }
 }
 
@@ -136,7 +156,7 @@ fn newlines_in(text: &[u8]) -> usize
 }
 
 /// Reads what is there behind a block, up to the last newline, and what comes behind that as the rest.
-fn read_on<I: Read>(
+fn read_behind<I: Read>(
     reader: &mut I,
     room: &mut [u8],
     block: &mut Vec<u8>,

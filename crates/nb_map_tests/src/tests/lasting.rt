@@ -1,6 +1,7 @@
 //! Tests of the map without an end.
 mod example;
 mod guests;
+mod named;
 mod owner;
 
 use std::alloc::Global;

@@ -102,7 +102,7 @@ pub(super) fn entry<R: Abort>(rt: &R, k: u64, n: u64) -> (Key, Num) {
 }
 
 /// What was there.
-fn was(before: Option<Num>) -> Answer {
+pub(super) fn was(before: Option<Num>) -> Answer {
     match before {
         Some(number) => Was(number.get()),
         None => Nothing,
@@ -134,8 +134,20 @@ pub(super) fn one_more(number: Option<Num>) -> Option<Num> {
     Num::new(before.saturating_add(1)).ok()
 }
 
-/// Makes a call that waits for nobody and is made below a limit, or one of the whole map.
-fn tries_below<R: Wait + Abort + AllocGlobal>(
+/// The condition of a write, and what it changes.
+fn write_of<R: Abort>(rt: &R, call: Call) -> (Want, Change) {
+    match call {
+        PutBelow(n, limit) => (Want::Below(number(rt, limit)), Change::Put(number(rt, n))),
+        PutAtAbsent(n) => (Want::Absent, Change::Put(number(rt, n))),
+        PutAtPresent(n) => (Want::Present, Change::Put(number(rt, n))),
+        AddAtAny(n) => (Want::Any, Change::Add(number(rt, n))),
+        RemoveEqual(n) => (Want::Equal(number(rt, n)), Change::Remove),
+        _ => panic!(rt; "this is another call"),
+    }
+}
+
+/// Makes a call that waits for nobody and is made under a condition, or one of the whole map.
+fn tries_if<R: Wait + Abort + AllocGlobal>(
     rt: &R,
     handle: &mut Handle,
     at: Key,
@@ -149,9 +161,9 @@ fn tries_below<R: Wait + Abort + AllocGlobal>(
             found(handle.try_add_below(at, number(rt, n), number(rt, limit), 1))
         }
         TryRemoveBelow(limit) => found(handle.try_remove_below(at, number(rt, limit), 1)),
-        PutBelow(n, limit) => {
-            let want = Want::Below(number(rt, limit));
-            replied(handle.put_if_match(at, want, Change::Put(number(rt, n)), 1))
+        PutBelow(_, _) | PutAtAbsent(_) | PutAtPresent(_) | AddAtAny(_) | RemoveEqual(_) => {
+            let (want, change) = write_of(rt, call);
+            replied(handle.put_if_match(at, want, change, 1))
         }
         PutIfNew(n) => first(rt, handle, at, number(rt, n)),
         _ => Is(comes(rt, handle, call)),
@@ -189,23 +201,7 @@ fn tries<R: Wait + Abort + AllocGlobal>(
         }
         Max(n, tries) => found(handle.fetch_max(at, number(rt, n), tries)),
         Min(n, tries) => found(handle.fetch_min(at, number(rt, n), tries)),
-        PutAtAbsent(n) => {
-            let change = Change::Put(number(rt, n));
-            replied(handle.put_if_match(at, Want::Absent, change, 1))
-        }
-        PutAtPresent(n) => {
-            let change = Change::Put(number(rt, n));
-            replied(handle.put_if_match(at, Want::Present, change, 1))
-        }
-        AddAtAny(n) => {
-            let change = Change::Add(number(rt, n));
-            replied(handle.put_if_match(at, Want::Any, change, 1))
-        }
-        RemoveEqual(n) => {
-            let want = Want::Equal(number(rt, n));
-            replied(handle.put_if_match(at, want, Change::Remove, 1))
-        }
-        _ => tries_below(rt, handle, at, call),
+        _ => tries_if(rt, handle, at, call),
     }
 }
 
@@ -259,6 +255,32 @@ fn lists<R: Abort + AllocGlobal>(rt: &R, handle: &mut Handle, pairs: &[(u64, u64
     false
 }
 
+/// Whether all seats settle, and there are so many keys.
+fn settles<R: AllocGlobal>(rt: &R, handle: &mut Handle, size: u64) -> bool {
+    for _attempt in 0..2 {
+        if handle.settle(rt.alloc()) == Ok(size) {
+            return true;
+        }
+    }
+    false
+}
+
+/// Whether the map is made anew with this end.
+fn renews<R: Abort + AllocGlobal>(
+    rt: &R,
+    handle: &mut Handle,
+    sizes: Sizes,
+    end: Result<(), RenewFault>,
+) -> bool {
+    let shape = shape(rt, sizes);
+    for _attempt in 0..2 {
+        if handle.renew(rt.alloc(), shape) == end {
+            return true;
+        }
+    }
+    false
+}
+
 /// Whether a call of the whole map comes to what it says.
 fn comes<R: Wait + Abort + AllocGlobal>(rt: &R, handle: &mut Handle, call: Call) -> bool {
     match call {
@@ -279,14 +301,9 @@ fn comes<R: Wait + Abort + AllocGlobal>(rt: &R, handle: &mut Handle, call: Call)
             let seen = handle.occupancy();
             seen.percent() == percent && seen.is_last && !seen.should_renew()
         }
-        Settle(size) => {
-            handle.settle(rt.alloc()) == Ok(size) || handle.settle(rt.alloc()) == Ok(size)
-        }
+        Settle(size) => settles(rt, handle, size),
         List(pairs) => lists(rt, handle, pairs),
-        Renew(sizes, end) => {
-            let shape = shape(rt, sizes);
-            handle.renew(rt.alloc(), shape) == end || handle.renew(rt.alloc(), shape) == end
-        }
+        Renew(sizes, end) => renews(rt, handle, sizes, end),
         _ => panic!(rt; "this is another call"),
     }
 }

@@ -99,20 +99,28 @@ const DOWN: u64 = 1003;
 
 const PASSING: u64 = 1004;
 
-/// Adds 1 by an update, and raises one key's number and lowers another's by the thread's own. What is
-/// inserted at a key that all share stays there, and a key comes and goes beside it. An update is
-/// contended only where others won as many exchanges on the key as it has tries, and they win fewer
-/// in all.
-fn round<R: Wait + Abort>(rt: &R, handle: &mut Handle, own: u64) {
-    let number = number(rt, own % 16_000);
+/// Adds 1 by an update, and raises one key's number and lowers another's by the thread's own. An update
+/// is contended only where others won as many exchanges on the key as it has tries, and they win fewer in
+/// all.
+fn updates<R: Abort>(rt: &R, handle: &mut Handle, number: Num) {
     assert!(rt; handle.try_update(key(rt, UPDATED), 8000, one_more).is_ok());
     assert!(rt; handle.fetch_max(key(rt, UP), number, 1_000_000).is_ok());
     assert!(rt; handle.fetch_min(key(rt, DOWN), number, 1_000_000).is_ok());
-    assert!(rt; handle.put(rt, key(rt, PASSING), number).is_ok());
-    let _ = handle.remove(rt, key(rt, PASSING));
-    let shared = key(rt, own % SHARED);
+}
+
+/// What is inserted at a key that all share stays there.
+fn inserts<R: Wait + Abort>(rt: &R, handle: &mut Handle, shared: Key, number: Num) {
     let now = handle.get_or_insert(rt, shared, number);
     assert!(rt; now.is_ok() && handle.get(shared) == now.ok());
+}
+
+/// Updates, inserts, and lets a key come and go.
+fn round<R: Wait + Abort>(rt: &R, handle: &mut Handle, own: u64) {
+    let number = number(rt, own % 16_000);
+    updates(rt, handle, number);
+    assert!(rt; handle.put(rt, key(rt, PASSING), number).is_ok());
+    let _ = handle.remove(rt, key(rt, PASSING));
+    inserts(rt, handle, key(rt, own % SHARED), number);
 }
 
 /// Makes all its rounds.

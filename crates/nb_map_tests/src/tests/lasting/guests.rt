@@ -1,14 +1,19 @@
 //! Guests that share a map without an end, each in a thread of its own, through dozens of renewals.
 ghost use Rattle.std.specs.Prelude.{All, ◌≡◌, ◌≤◌};
 
+use super::super::rows::Answer::Is;
+use super::super::rows::Call::*;
+use super::super::rows::{Answer, Call, number, was};
 use super::asks_for_much;
-use nb_core::{Key, Num, VALUE_MAX};
-use nb_lasting::{GrowFault, Guest, SharedLasting, WriteFault};
+use super::named::{BY_NAME, added, grown};
+use nb_core::{Key, Num};
+use nb_lasting::{GrowFault, Guest, SharedLasting};
 use nb_map::{Ended, SettleFault};
 use std::alloc::Global;
 use std::process::Abort;
 use std::sync::Wait;
 use std::thread;
+use std::thread::Threads;
 
 /// A map that is made anew soon, with so many guests, also where one request for memory is refused.
 fn opened<R: Abort>(rt: &R, alloc: Global, guests: usize) -> (SharedLasting, Vec<Guest>)
@@ -22,6 +27,57 @@ fn opened<R: Abort>(rt: &R, alloc: Global, guests: usize) -> (SharedLasting, Vec
         asks_for_much(alloc);
     }
     panic!(rt; "memory")
+}
+
+/// What each guest of a map does, in threads.
+#[derive(Clone, Copy)]
+enum Job {
+    /// All of them make their rounds.
+    Rounds,
+    /// The first one asks for the size, and the others put keys.
+    Fill,
+    /// The first one takes out a key.
+    TakeOne,
+    /// The second one makes each call by its name, and puts keys. The others make no call.
+    SecondCalls,
+    /// All of them ask for the size and put keys, and again where memory was refused.
+    TryAgain,
+}
+
+/// The guest with this number, from 0 on, does its part.
+fn works<R: Wait + Abort + AllocGlobal>(rt: &R, guest: &mut Guest, job: Job, number: usize)
+    ensures { guest.new.of ≡ guest.old.of }
+{
+    let thread = (number % 4) as u32;
+    match job {
+        Job::Rounds => rounds(rt, guest, thread),
+        Job::Fill => fills_or_asks(rt, guest, thread),
+        Job::TakeOne => takes_one(rt, guest, thread == 0),
+        Job::SecondCalls => calls_if_second(rt, guest, thread),
+        Job::TryAgain => tries_again(rt, guest),
+    }
+}
+
+/// All guests do so, in so many threads at most.
+fn all_work<R: Threads + Sync + Wait + Abort + AllocGlobal>(
+    rt: &R,
+    shared: &SharedLasting,
+    guests: &mut [Guest],
+    most: usize,
+    job: Job,
+)
+    requires some { 1 ≤ most }
+    requires of { All (λ guest. guest.of ≡ shared.now) guests.old }
+    ensures { All (λ guest. guest.of ≡ shared.now) guests.new }
+{
+    thread::for_each_mut(
+        rt,
+        guests,
+        most,
+        &|number: usize, guest: &mut Guest|
+            ensures { guest.exit.now.of ≡ guest.entry.now.of }
+        { works(rt, guest, job, number) },
+    );
 }
 
 /// What is left, with all guests.
@@ -67,22 +123,8 @@ fn rounds<R: Wait + Abort>(rt: &R, guest: &mut Guest, thread: u32)
     assert!(rt; left == Ok(None));
 }
 
-/// Four threads add to the same keys, while keys come and go and the map is made anew dozens of
-/// times: a small map isn't renewed for every few keys. No add is lost, and none is made twice.
-#[test]
-fn threads_add_through_renewals(rt: HostRuntime) {
-    let (shared, mut guests) = opened(&rt, rt.alloc(), 4);
-    thread::for_each_mut(
-        &rt,
-        guests.as_mut_slice(),
-        4,
-        &|thread: usize, guest: &mut Guest|
-            ensures { guest.exit.now.of ≡ guest.entry.now.of }
-        { rounds(&rt, guest, (thread % 4) as u32) },
-    );
-    let renewals = guests.first().map_or(0, Guest::renewals);
-    assert!(rt; renewals > 12 && renewals < 60);
-    let ended = ended(&rt, shared, guests);
+/// What is left of four threads' adds, and of the key that each has left.
+fn has_added<R: Abort>(rt: &R, ended: &Ended) {
     assert!(rt; ended.size() == 11);
     for word in 0..SHARED {
         let due = 4 * ((ROUNDS - word).div_ceil(SHARED));
@@ -91,6 +133,17 @@ fn threads_add_through_renewals(rt: HostRuntime) {
     for word in 0..4_u32 {
         assert!(rt; ended.get(Key::from(word + 100)) == Some(Num::from(word)));
     }
+}
+
+/// Four threads add to the same keys, while keys come and go and the map is made anew dozens of
+/// times: a small map isn't renewed for every few keys. No add is lost, and none is made twice.
+#[test]
+fn threads_add_through_renewals(rt: HostRuntime) {
+    let (shared, mut guests) = opened(&rt, rt.alloc(), 4);
+    all_work(&rt, &shared, guests.as_mut_slice(), 4, Job::Rounds);
+    let renewals = guests.first().map_or(0, Guest::renewals);
+    assert!(rt; renewals > 12 && renewals < 60);
+    has_added(&rt, &ended(&rt, shared, guests));
 }
 
 /// Puts keys of its own, each of which stays.
@@ -118,6 +171,17 @@ fn asks<R: Wait + Abort>(rt: &R, guest: &mut Guest)
     }
 }
 
+/// The first thread asks, and the others put.
+fn fills_or_asks<R: Wait + Abort>(rt: &R, guest: &mut Guest, thread: u32)
+    ensures { guest.new.of ≡ guest.old.of }
+{
+    if thread == 0 {
+        asks(rt, guest);
+    } else {
+        fills(rt, guest, thread);
+    }
+}
+
 /// What is left of three threads' keys and of one that was removed.
 fn has_filled<R: Abort>(rt: &R, ended: &Ended) {
     assert!(rt; ended.size() == 29_999);
@@ -127,40 +191,25 @@ fn has_filled<R: Abort>(rt: &R, ended: &Ended) {
     }
 }
 
+/// Sees that the size is exact, or one less once a key is gone. The first guest takes that key out.
+fn takes_one<R: Wait + Abort>(rt: &R, guest: &mut Guest, is_first: bool)
+    ensures { guest.new.of ≡ guest.old.of }
+{
+    let size = guest.size(rt);
+    assert!(rt; size == Ok(30_000) || size == Ok(29_999));
+    let gone = guest.remove(rt, Key::from(1_u32));
+    assert!(rt; gone.is_some() == is_first && guest.renewals() > 0);
+}
+
 /// A map that was made for few keys takes many, of three threads, while another one asks for its
 /// size. Once all guests settle, the size is exact, and the map goes on.
 #[test]
 fn size_while_threads_put(rt: HostRuntime) {
     let (mut shared, mut guests) = opened(&rt, rt.alloc(), 4);
     assert!(rt; shared.settle(&rt, guests.as_mut_slice()) == Ok(0));
-    thread::for_each_mut(
-        &rt,
-        guests.as_mut_slice(),
-        4,
-        &|thread: usize, guest: &mut Guest|
-            ensures { guest.exit.now.of ≡ guest.entry.now.of }
-        {
-            if thread == 0 {
-                asks(&rt, guest);
-            } else {
-                fills(&rt, guest, (thread % 4) as u32);
-            }
-        },
-    );
+    all_work(&rt, &shared, guests.as_mut_slice(), 4, Job::Fill);
     assert!(rt; shared.settle(&rt, guests.as_mut_slice()) == Ok(30_000));
-    thread::for_each_mut(
-        &rt,
-        guests.as_mut_slice(),
-        1,
-        &|thread: usize, guest: &mut Guest|
-            ensures { guest.exit.now.of ≡ guest.entry.now.of }
-        {
-            let size = guest.size(&rt);
-            assert!(rt; size == Ok(30_000) || size == Ok(29_999));
-            let gone = guest.remove(&rt, Key::from(1_u32));
-            assert!(rt; gone.is_some() == (thread == 0) && guest.renewals() > 0);
-        },
-    );
+    all_work(&rt, &shared, guests.as_mut_slice(), 1, Job::TakeOne);
     assert!(rt; shared.settle(&rt, guests.as_mut_slice()) == Ok(29_999));
     has_filled(&rt, &ended(&rt, shared, guests));
 }
@@ -182,43 +231,45 @@ fn without_a_guest(rt: HostRuntime) {
 #[test]
 fn beside_guests_that_make_no_call(rt: HostRuntime) {
     let (shared, mut guests) = opened(&rt, rt.alloc(), 3);
-    thread::for_each_mut(
-        &rt,
-        guests.as_mut_slice(),
-        1,
-        &|number: usize, guest: &mut Guest|
-            ensures { guest.exit.now.of ≡ guest.entry.now.of }
-        {
-            if number == 1 {
-                calls_by_name(&rt, guest);
-                fills(&rt, guest, 0);
-            }
-        },
-    );
+    all_work(&rt, &shared, guests.as_mut_slice(), 1, Job::SecondCalls);
     assert!(rt; ended(&rt, shared, guests).size() == 10_000);
 }
 
-/// Each call by its name, and the one refusal that needs no memory. In the end the map is as it
-/// was.
+/// Makes a call of the key 7.
+fn makes<R: Wait + Abort>(rt: &R, guest: &mut Guest, call: Call) -> Answer
+    ensures { guest.new.of ≡ guest.old.of }
+{
+    let at = Key::from(7_u32);
+    match call {
+        Get => was(guest.get(rt, at)),
+        Put(n) => grown(guest.put(rt, at, number(rt, n))),
+        PutIfAbsent(n) => grown(guest.put_if_absent(rt, at, number(rt, n))),
+        Replace(n) => was(guest.replace(rt, at, number(rt, n))),
+        ReplaceIf(old, new) => Is(guest.replace_if(rt, at, number(rt, old), number(rt, new))),
+        Add(n) => added(guest.add(rt, at, number(rt, n))),
+        Remove => was(guest.remove(rt, at)),
+        RemoveIf(n) => Is(guest.remove_if(rt, at, number(rt, n))),
+        _ => panic!(rt; "this is another call"),
+    }
+}
+
+/// The second thread makes each call by its name, and puts keys.
+fn calls_if_second<R: Wait + Abort>(rt: &R, guest: &mut Guest, thread: u32)
+    ensures { guest.new.of ≡ guest.old.of }
+{
+    if thread == 1 {
+        calls_by_name(rt, guest);
+        fills(rt, guest, 0);
+    }
+}
+
+/// Each call by its name. In the end the map is as it was.
 fn calls_by_name<R: Wait + Abort>(rt: &R, guest: &mut Guest)
     ensures { guest.new.of ≡ guest.old.of }
 {
-    let key = Key::from(7_u32);
-    let (one, two, most) = (Num::from(1_u32), Num::from(2_u32), Num::new(VALUE_MAX));
-    let most = most.expect(rt, "a number");
-    assert!(rt; guest.replace(rt, key, one).is_none());
-    assert!(rt; guest.put(rt, key, one) == Ok(None));
-    assert!(rt; guest.put_if_absent(rt, key, two) == Ok(Some(one)));
-    assert!(rt; guest.replace(rt, key, two) == Some(one));
-    assert!(rt; !guest.replace_if(rt, key, one, most));
-    assert!(rt; guest.replace_if(rt, key, two, most));
-    assert!(rt; guest.add(rt, key, one) == Err(WriteFault::ValueRange));
-    assert!(rt; guest.get(rt, key) == Some(most));
-    assert!(rt; !guest.remove_if(rt, key, one));
-    assert!(rt; guest.remove_if(rt, key, most));
-    assert!(rt; guest.remove(rt, key).is_none());
-    assert!(rt; guest.add(rt, key, two) == Ok(None));
-    assert!(rt; guest.remove(rt, key) == Some(two));
+    for (call, answer) in &BY_NAME {
+        assert!(rt; makes(rt, guest, *call) == *answer);
+    }
 }
 
 /// Whichever one request for memory is refused, or all from that one on, each call ends, and the map
@@ -232,14 +283,7 @@ fn guests_refused_memory(rt: HostRuntime) {
     }
     let again = shared.settle(&rt, guests.as_mut_slice());
     assert!(rt; size == Ok(0) || (size == Err(SettleFault::OutOfMemory) && again == Ok(0)));
-    thread::for_each_mut(
-        &rt,
-        guests.as_mut_slice(),
-        1,
-        &|_, guest: &mut Guest|
-            ensures { guest.exit.now.of ≡ guest.entry.now.of }
-        { tries_again(&rt, guest) },
-    );
+    all_work(&rt, &shared, guests.as_mut_slice(), 1, Job::TryAgain);
     assert!(rt; ended(&rt, shared, guests).size() == 200);
 }
 

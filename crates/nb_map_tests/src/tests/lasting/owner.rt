@@ -1,6 +1,10 @@
 //! The map without an end beside a plain map, through dozens of renewals, and where memory is
 //! refused.
-use nb_core::{Change, Key, Num, PlainFault, PlainMap, VALUE_MAX, Want};
+use super::super::rows::Answer::Is;
+use super::super::rows::Call::*;
+use super::super::rows::{Answer, Call, number, was};
+use super::named::{BY_NAME, added, grown};
+use nb_core::{Change, Key, Num, PlainFault, PlainMap, Want};
 use nb_lasting::{GrowFault, Lasting, WriteFault};
 use std::alloc::Global;
 use std::process::Abort;
@@ -93,30 +97,35 @@ fn grows(rt: HostRuntime) {
     for word in 0..100_000_u32 {
         assert!(rt; lasting.get(Key::from(word)) == Some(Num::from(word)));
     }
-    let listed = lasting.entries();
-    assert!(rt; listed.is_ok_and(|entries| entries.len() == 100_000));
+    match lasting.entries() {
+        Ok(entries) => assert!(rt; entries.len() == 100_000),
+        Err(_) => panic!(rt; "memory"),
+    }
 }
 
-/// Each call by its name, and the one refusal that needs no memory.
+/// Makes a call of the key 7.
+fn makes<R: Abort>(rt: &R, lasting: &mut Lasting, call: Call) -> Answer {
+    let at = Key::from(7_u32);
+    match call {
+        Get => was(lasting.get(at)),
+        Put(n) => grown(lasting.put(at, number(rt, n))),
+        PutIfAbsent(n) => grown(lasting.put_if_absent(at, number(rt, n))),
+        Replace(n) => was(lasting.replace(at, number(rt, n))),
+        ReplaceIf(old, new) => Is(lasting.replace_if(at, number(rt, old), number(rt, new))),
+        Add(n) => added(lasting.add(at, number(rt, n))),
+        Remove => was(lasting.remove(at)),
+        RemoveIf(n) => Is(lasting.remove_if(at, number(rt, n))),
+        _ => panic!(rt; "this is another call"),
+    }
+}
+
+/// Each call by its name. In the end the map is empty.
 #[test]
 fn calls_by_name(rt: HostRuntime) {
     let mut lasting = opened(&rt, rt.alloc());
-    let key = Key::from(7_u32);
-    let (one, two, most) = (Num::from(1_u32), Num::from(2_u32), Num::new(VALUE_MAX));
-    let most = most.expect(&rt, "a number");
-    assert!(rt; lasting.replace(key, one).is_none());
-    assert!(rt; lasting.put(key, one) == Ok(None));
-    assert!(rt; lasting.put_if_absent(key, two) == Ok(Some(one)));
-    assert!(rt; lasting.replace(key, two) == Some(one));
-    assert!(rt; !lasting.replace_if(key, one, most));
-    assert!(rt; lasting.replace_if(key, two, most));
-    assert!(rt; lasting.add(key, one) == Err(WriteFault::ValueRange));
-    assert!(rt; lasting.get(key) == Some(most));
-    assert!(rt; !lasting.remove_if(key, one));
-    assert!(rt; lasting.remove_if(key, most));
-    assert!(rt; lasting.remove(key).is_none());
-    assert!(rt; lasting.add(key, two) == Ok(None));
-    assert!(rt; lasting.remove(key) == Some(two));
+    for (call, answer) in &BY_NAME {
+        assert!(rt; makes(&rt, &mut lasting, *call) == *answer);
+    }
     assert!(rt; lasting.close(&rt).is_empty());
 }
 

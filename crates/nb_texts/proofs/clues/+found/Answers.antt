@@ -1,29 +1,8 @@
 use Rattle.std.proofs.Common.{◌≡◌, ◌++◌, IfOk, rules, subst, sym}
-use Rattle.std.proofs.lemmas.Result.{IfOk-at_ok, IfOk-weaker}
 use Rattle.nb_texts.specs.Clues.{AreCluesTo, HasOnlyLooked, HaveOnlyLooked}
 use Rattle.nb_texts.specs.Lines.{lines_in}
-use Rattle.nb_texts.proofs.ClueLemmas.{clues-both, zip-append}
+use Rattle.nb_texts.proofs.ClueLemmas.{both-made, clues-both, zip-append}
 use Rattle.nb_texts.proofs.clues.+found.Goals as goal
-
-pub returns-in_err-first-clause-looked : goal.returns-in_err-first-clause-looked
-returns-in_err-first-clause-looked g t c =
-    let few = c.split_at_mut-few.result.0.now in
-    let others = c.split_at_mut-few.result.1.now in
-    let front : HaveOnlyLooked few c.few-1.given.0 = search rules in
-    let back : HaveOnlyLooked others c.others-1.given.0 = search rules in
-    let parts : c.args.readers.now ≡ few ++ others = search rules in
-    subst (λ readers. HaveOnlyLooked readers (c.few-1.given.0 ++ c.others-1.given.0)) (sym parts)
-    (zip-append HasOnlyLooked few c.few-1.given.0 others c.others-1.given.0 front back)
-
-pub returns-in_err-second-clause-looked : goal.returns-in_err-second-clause-looked
-returns-in_err-second-clause-looked g t c =
-    let few = c.split_at_mut-few.result.0.now in
-    let others = c.split_at_mut-few.result.1.now in
-    let front : HaveOnlyLooked few c.few-1.given.0 = search rules in
-    let back : HaveOnlyLooked others c.others-1.given.0 = search rules in
-    let parts : c.args.readers.now ≡ few ++ others = search rules in
-    subst (λ readers. HaveOnlyLooked readers (c.few-1.given.0 ++ c.others-1.given.0)) (sym parts)
-    (zip-append HasOnlyLooked few c.few-1.given.0 others c.others-1.given.0 front back)
 
 pub returns-clause-looked : goal.returns-clause-looked
 returns-clause-looked g t c =
@@ -45,9 +24,12 @@ returns-clause-clues g t c =
     = search rules in
     let second : IfOk c.join_mut-first.result.1 (λ clues. AreCluesTo hashing texts back clues.items)
     = search rules in
-    let one = IfOk-at_ok (λ clues. AreCluesTo hashing texts front clues.items) c.in_ok-first.was first in
-    let two = IfOk-at_ok (λ clues. AreCluesTo hashing texts back clues.items) c.in_ok-second.was second in
-    IfOk-weaker c.both.result _ _
-    (λ all are. clues-both hashing texts (lines_in c.args.text.now) front back
-    c.in_ok-first.field-0.items c.in_ok-second.field-0.items all.items c.split_text.ensures.lines are one
-    two) c.both.ensures
+    both-made c.join_mut-first.result.0 c.join_mut-first.result.1 c.both.result
+    (λ clues. AreCluesTo hashing texts front clues.items)
+    (λ clues. AreCluesTo hashing texts back clues.items)
+    (λ clues. AreCluesTo hashing texts (lines_in c.args.text.now) clues.items)
+    (λ front back clues. clues.items ≡ front.items ++ back.items) c.both.ensures.ok c.both.ensures.clues
+    first second
+    (λ one two all are too made.
+    clues-both hashing texts (lines_in c.args.text.now) front back one.items two.items all.items
+    c.split_text.ensures.lines made are too)

@@ -5,7 +5,7 @@ use Rattle.std.specs.Io.KnownBytes.{Consumes}
 use Rattle.std.specs.Prelude.{slice_index}
 use Rattle.nb_texts.proofs.SourceLemmas.{one-behind}
 use Rattle.nb_texts.specs.Sources.{IsInOneLine}
-use Rattle.nb_texts.proofs.source.read_on.Goals as goal
+use Rattle.nb_texts.proofs.source.read_behind.Goals as goal
 
 pub returns-clause-taken : goal.returns-clause-taken
 returns-clause-taken g c =
