@@ -13,12 +13,10 @@ fn opened<R: Abort>(rt: &R, alloc: Global) -> Catalog
     ensures { IsAtRest result }
 {
     let hashing = Hashing::new(7, 2);
-    for _attempt in 0..2 {
-        if let Ok(catalog) = Catalog::open(alloc, hashing, 4, None) {
-            return catalog;
-        }
+    if let Ok(catalog) = Catalog::open(alloc, hashing, 4, None) {
+        return catalog;
     }
-    panic!(rt; "memory")
+    Catalog::open(alloc, hashing, 4, None).expect(rt, "memory")
 }
 
 /// Makes room. Where that is refused, the catalog is brought to rest, and it is asked for again.
@@ -26,13 +24,13 @@ fn make_room<R: Abort>(rt: &R, alloc: Global, catalog: &mut Catalog)
     requires { IsAtRest catalog.old }
     ensures { IsAtRest catalog.new }
 {
-    for _attempt in 0..2 {
-        match catalog.make_room(alloc, 64) {
-            Ok(()) => return,
-            Err(_) => catalog.rest(alloc).expect(rt, "memory"),
+    match catalog.make_room(alloc, 64) {
+        Ok(()) => {}
+        Err(_) => {
+            catalog.rest(alloc).expect(rt, "memory");
+            catalog.make_room(alloc, 64).expect(rt, "memory");
         }
     }
-    panic!(rt; "memory")
 }
 
 /// Enters the lines of a block. Where that is refused, the catalog is brought to rest, and they are
@@ -46,13 +44,13 @@ fn enter<R: Abort + Threads + Sync + Wait>(
     requires { IsAtRest catalog.old }
     ensures { IsAtRest catalog.new }
 {
-    for _attempt in 0..2 {
-        match catalog.enter(rt, alloc, block, 2) {
-            Ok(_places) => return,
-            Err(_) => catalog.rest(alloc).expect(rt, "memory"),
+    match catalog.enter(rt, alloc, block, 2) {
+        Ok(_places) => {}
+        Err(_) => {
+            catalog.rest(alloc).expect(rt, "memory");
+            let _places = catalog.enter(rt, alloc, block, 2).expect(rt, "memory");
         }
     }
-    panic!(rt; "memory")
 }
 
 /// Whichever one request for memory is refused, the catalog goes on, with the same lines.

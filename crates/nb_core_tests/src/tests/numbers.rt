@@ -31,29 +31,28 @@ fn keys_and_numbers_shown(rt: HostRuntime) {
     assert!(rt; shown.as_str() == "4294967295   4294967295 005");
 }
 
-/// Texts, and the numbers that they are. A text is no number either where the digits before another byte
-/// are too many.
-const TEXTS: [(&[u8], Result<u64, DigitsFault>); 15] = [
-    (b"0", Ok(0)),
-    (b"007", Ok(7)),
-    (b"18446744073709551615", Ok(u64::MAX)),
-    (b"18446744073709551616", Err(DigitsFault::TooLarge)),
-    (b"99999999999999999999999", Err(DigitsFault::TooLarge)),
-    (b"99999999999999999999999x", Err(DigitsFault::NotANumber)),
-    (b"", Err(DigitsFault::NotANumber)),
-    (b"-1", Err(DigitsFault::NotANumber)),
-    (b"+1", Err(DigitsFault::NotANumber)),
-    (b" 1", Err(DigitsFault::NotANumber)),
-    (b"1 ", Err(DigitsFault::NotANumber)),
-    (b"1\r", Err(DigitsFault::NotANumber)),
-    (b"x", Err(DigitsFault::NotANumber)),
-    (b":", Err(DigitsFault::NotANumber)),
-    (b"/", Err(DigitsFault::NotANumber)),
-];
-
+/// A text is no number either where the digits before another byte are too many.
 #[test]
 fn numbers_of_64_bits(rt: HostRuntime) {
-    for (text, due) in TEXTS {
+    let (none, large) = (Err(DigitsFault::NotANumber), Err(DigitsFault::TooLarge));
+    let rows: [(&[u8], Result<u64, DigitsFault>); 15] = [
+        (b"0", Ok(0)),
+        (b"007", Ok(7)),
+        (b"18446744073709551615", Ok(u64::MAX)),
+        (b"18446744073709551616", large),
+        (b"99999999999999999999999", large),
+        (b"99999999999999999999999x", none),
+        (b"", none),
+        (b"-1", none),
+        (b"+1", none),
+        (b" 1", none),
+        (b"1 ", none),
+        (b"1\r", none),
+        (b"x", none),
+        (b":", none),
+        (b"/", none),
+    ];
+    for (text, due) in rows {
         assert!(rt; read_number(text) == due, "{text:?}");
     }
 }
@@ -63,25 +62,23 @@ fn is_mixed(number: u64, mixed: u64, is_key: bool) -> bool {
     mix(number) == mixed && unmix(mixed) == number && Key::new(mixed).is_ok() == is_key
 }
 
-/// Numbers, what they are mixed to, and whether that is a key. The last one and the one before it are
-/// mixed to what is none: `mixed_past_the_greatest_key`.
-const MIXED: [(u64, u64, bool); 8] = [
-    (0, 0, true),
-    (1, 17732798614194424744, true),
-    (2, 17013110623237245971, true),
-    (131072, 17231277123929834607, true),
-    (281474976710656, 3229997669068692271, true),
-    (u64::MAX, 17684271367961033934, true),
-    (1504646209777642070, u64::MAX, false),
-    (5863696168926310861, u64::MAX - 1, false),
-];
-
+/// The last but one and the one before it are mixed to what is no key:
+/// `mixed_past_the_greatest_key`.
 #[test]
 fn mixed_numbers(rt: HostRuntime) {
-    for (number, mixed, is_key) in MIXED {
+    for (number, mixed, is_key) in [
+        (0, 0, true),
+        (1, 17732798614194424744, true),
+        (2, 17013110623237245971, true),
+        (131072, 17231277123929834607, true),
+        (281474976710656, 3229997669068692271, true),
+        (u64::MAX, 17684271367961033934, true),
+        (1504646209777642070, u64::MAX, false),
+        (5863696168926310861, u64::MAX - 1, false),
+        (unmix(KEY_MAX), KEY_MAX, true),
+    ] {
         assert!(rt; is_mixed(number, mixed, is_key));
     }
-    assert!(rt; is_mixed(unmix(KEY_MAX), KEY_MAX, true));
 }
 
 #[test]

@@ -35,16 +35,15 @@ const SIXTEEN: [usize; 16] = [
 ];
 
 /// Where each table begins, and how many words all have.
-const PLACES: [(&[u32], &[usize], usize); 4] = [
-    (&[2, 2, 3], &[1, 12, 23], 42),
-    (&[2], &[1], 12),
-    (&[2, 3, 4], &[1, 12, 31], 66),
-    (&[2; 16], &SIXTEEN, 177),
-];
-
 #[test]
 fn plan_places(rt: HostRuntime) {
-    for (exponents, bases, words) in PLACES {
+    let rows: [(&[u32], &[usize], usize); 4] = [
+        (&[2, 2, 3], &[1, 12, 23], 42),
+        (&[2], &[1], 12),
+        (&[2, 3, 4], &[1, 12, 31], 66),
+        (&[2; 16], &SIXTEEN, 177),
+    ];
+    for (exponents, bases, words) in rows {
         let shape = Shape::with_plan(exponents, 1, 1).expect(&rt, "a shape");
         assert!(rt; shape.words() == words, "{exponents:?}");
         assert!(rt;
@@ -154,16 +153,15 @@ fn limits_and_chunks(rt: HostRuntime) {
     }
 }
 
-/// Shapes of tables that double, and their plans.
-const DOUBLING: [(u32, u32, usize, usize, &[u32]); 3] = [
-    (2, 1, 1, 1, &[2]),
-    (2, 3, 8, 7, &[2, 3, 4]),
-    (12, 8, 8, 8, &[12, 13, 14, 15, 16, 17, 18, 19]),
-];
-
+/// Shapes of tables that double, and of a plan.
 #[test]
 fn doubling_shapes(rt: HostRuntime) {
-    for (bits, generations, seats, stripes, exponents) in DOUBLING {
+    let rows: [(u32, u32, usize, usize, &[u32]); 3] = [
+        (2, 1, 1, 1, &[2]),
+        (2, 3, 8, 7, &[2, 3, 4]),
+        (12, 8, 8, 8, &[12, 13, 14, 15, 16, 17, 18, 19]),
+    ];
+    for (bits, generations, seats, stripes, exponents) in rows {
         let doubling = Shape::new(bits, generations, seats, stripes);
         let planned = Shape::with_plan(exponents, seats, stripes);
         assert!(rt; doubling == planned, "from {bits} bits");
@@ -176,40 +174,35 @@ fn doubling_shapes(rt: HostRuntime) {
     assert!(rt; (largest.generations(), largest.words()) == (8, 2_088_985));
 }
 
-/// Plans for which there is no shape.
-const NO_PLANS: [(&[u32], usize, usize, ShapeFault); 8] = [
-    (&[], 1, 1, ShapeFault::Generations),
-    (&[2; 17], 1, 1, ShapeFault::Generations),
-    (&[1], 1, 1, ShapeFault::Bits),
-    (&[2, 20], 1, 1, ShapeFault::Bits),
-    (&[3, 1], 1, 1, ShapeFault::Bits),
-    (&[3, 2], 1, 1, ShapeFault::Plan),
-    (&[2, 2], 0, 0, ShapeFault::Seats),
-    (&[2, 2], 1, 0, ShapeFault::Stripes),
-];
-
 #[test]
 fn plan_refusals(rt: HostRuntime) {
-    for (exponents, seats, stripes, fault) in NO_PLANS {
+    let rows: [(&[u32], usize, usize, ShapeFault); 8] = [
+        (&[], 1, 1, ShapeFault::Generations),
+        (&[2; 17], 1, 1, ShapeFault::Generations),
+        (&[1], 1, 1, ShapeFault::Bits),
+        (&[2, 20], 1, 1, ShapeFault::Bits),
+        (&[3, 1], 1, 1, ShapeFault::Bits),
+        (&[3, 2], 1, 1, ShapeFault::Plan),
+        (&[2, 2], 0, 0, ShapeFault::Seats),
+        (&[2, 2], 1, 0, ShapeFault::Stripes),
+    ];
+    for (exponents, seats, stripes, fault) in rows {
         let refused = Shape::with_plan(exponents, seats, stripes);
         assert!(rt; refused == Err(fault), "{exponents:?}");
     }
 }
 
-/// Numbers for which there is no shape of tables that double.
-const NO_SHAPES: [(u32, u32, usize, usize, ShapeFault); 7] = [
-    (1, 1, 1, 1, ShapeFault::Bits),
-    (13, 0, 0, 0, ShapeFault::Bits),
-    (2, 0, 1, 1, ShapeFault::Generations),
-    (2, 9, 1, 1, ShapeFault::Generations),
-    (2, 1, 0, 1, ShapeFault::Seats),
-    (2, 1, 9, 0, ShapeFault::Seats),
-    (2, 1, 1, 9, ShapeFault::Stripes),
-];
-
 #[test]
 fn shape_refusals(rt: HostRuntime) {
-    for (bits, generations, seats, stripes, fault) in NO_SHAPES {
+    for (bits, generations, seats, stripes, fault) in [
+        (1, 1, 1, 1, ShapeFault::Bits),
+        (13, 0, 0, 0, ShapeFault::Bits),
+        (2, 0, 1, 1, ShapeFault::Generations),
+        (2, 9, 1, 1, ShapeFault::Generations),
+        (2, 1, 0, 1, ShapeFault::Seats),
+        (2, 1, 9, 0, ShapeFault::Seats),
+        (2, 1, 1, 9, ShapeFault::Stripes),
+    ] {
         let refused = Shape::new(bits, generations, seats, stripes);
         assert!(rt;
             refused == Err(fault),
@@ -219,34 +212,34 @@ fn shape_refusals(rt: HostRuntime) {
 }
 
 /// Shapes for so many keys and seats, and why there is none.
-const FOR_KEYS: [(usize, usize, Result<&[u32], ShapeFault>); 22] = [
-    (0, 1, Ok(&[5])),
-    (21, 4, Ok(&[5])),
-    (22, 4, Ok(&[6])),
-    (43, 4, Ok(&[6])),
-    (1000, 8, Ok(&[11])),
-    (1365, 8, Ok(&[11])),
-    (1366, 9, Ok(&[4, 12])),
-    (65536, 9, Ok(&[9, 17])),
-    (174_763, 17, Ok(&[10, 18])),
-    (174_764, 100, Ok(&[11, 19])),
-    (349_526, 256, Ok(&[4, 12, 20])),
-    (699_052, 16, Ok(&[5, 13, 21])),
-    (1_000_000, 17, Ok(&[5, 13, 21])),
-    (11_184_811, 64, Ok(&[8, 16, 24])),
-    (44_739_243, 128, Ok(&[10, 18, 26])),
-    (44_739_244, 128, Ok(&[11, 19, 27])),
-    (178_956_970, 256, Ok(&[4, 12, 20, 28])),
-    (MOST_KEYS + 1, 0, Err(ShapeFault::Keys)),
-    (usize::MAX, 1, Err(ShapeFault::Keys)),
-    (MOST_KEYS, 257, Err(ShapeFault::Seats)),
-    (100, 0, Err(ShapeFault::Seats)),
-    (100, usize::MAX, Err(ShapeFault::Seats)),
-];
-
 #[test]
 fn shapes_for_keys(rt: HostRuntime) {
-    for (most, seats, due) in FOR_KEYS {
+    let (keys, seats) = (Err(ShapeFault::Keys), Err(ShapeFault::Seats));
+    let rows: [(usize, usize, Result<&[u32], ShapeFault>); 22] = [
+        (0, 1, Ok(&[5])),
+        (21, 4, Ok(&[5])),
+        (22, 4, Ok(&[6])),
+        (43, 4, Ok(&[6])),
+        (1000, 8, Ok(&[11])),
+        (1365, 8, Ok(&[11])),
+        (1366, 9, Ok(&[4, 12])),
+        (65536, 9, Ok(&[9, 17])),
+        (174_763, 17, Ok(&[10, 18])),
+        (174_764, 100, Ok(&[11, 19])),
+        (349_526, 256, Ok(&[4, 12, 20])),
+        (699_052, 16, Ok(&[5, 13, 21])),
+        (1_000_000, 17, Ok(&[5, 13, 21])),
+        (11_184_811, 64, Ok(&[8, 16, 24])),
+        (44_739_243, 128, Ok(&[10, 18, 26])),
+        (44_739_244, 128, Ok(&[11, 19, 27])),
+        (178_956_970, 256, Ok(&[4, 12, 20, 28])),
+        (MOST_KEYS + 1, 0, keys),
+        (usize::MAX, 1, keys),
+        (MOST_KEYS, 257, seats),
+        (100, 0, seats),
+        (100, usize::MAX, seats),
+    ];
+    for (most, seats, due) in rows {
         let due = match due {
             Ok(exponents) => made(exponents, seats, seats.min(16), 18, 32),
             Err(fault) => Err(fault),

@@ -22,43 +22,41 @@ const BEGINS: [Step; 4] = [Put(0, 10), Put(4, 14), Put(8, 18), Installs(12, true
 
 /// A primes a slot. B reads its key, and so copies it, and A finds it copied, and table 1
 /// installed. Another slot is copied by a call for it.
-const COPIES_ONE_SLOT: [(usize, &[Step]); 5] = [
-    (0, &BEGINS),
-    (0, &[Primes(LIVE_10)]),
-    (1, &[Get(0, Some(10))]),
-    (
-        0,
-        &[Copies(0, false), Primes(FINISHED_10), Installs(12, false)],
-    ),
-    (1, &[Live(1, 0, 0, 10), Copies(1, true)]),
-];
-
 #[test]
 fn copy_of_one_slot(rt: HostRuntime) {
-    story(&rt, rt.alloc(), &[2, 3], 2, &COPIES_ONE_SLOT, &THREE);
+    let turns: [(usize, &[Step]); 5] = [
+        (0, &BEGINS),
+        (0, &[Primes(LIVE_10)]),
+        (1, &[Get(0, Some(10))]),
+        (
+            0,
+            &[Copies(0, false), Primes(FINISHED_10), Installs(12, false)],
+        ),
+        (1, &[Live(1, 0, 0, 10), Copies(1, true)]),
+    ];
+    story(&rt, rt.alloc(), &[2, 3], 2, &turns, &THREE);
 }
 
 /// A seat copies the slots one after another, and counts each. The last one raises the top word.
-const COUNTS_SLOTS: [(usize, &[Step]); 2] = [
-    (0, &BEGINS),
-    (
-        0,
-        &[
-            Counts(0, true),
-            Top(0),
-            Counts(1, true),
-            Top(0),
-            Counts(2, true),
-            Top(0),
-            Counts(3, true),
-            Top(1),
-        ],
-    ),
-];
-
 #[test]
 fn counted_slots_raise_the_top(rt: HostRuntime) {
-    story(&rt, rt.alloc(), &[2, 3], 1, &COUNTS_SLOTS, &THREE);
+    let turns: [(usize, &[Step]); 2] = [
+        (0, &BEGINS),
+        (
+            0,
+            &[
+                Counts(0, true),
+                Top(0),
+                Counts(1, true),
+                Top(0),
+                Counts(2, true),
+                Top(0),
+                Counts(3, true),
+                Top(1),
+            ],
+        ),
+    ];
+    story(&rt, rt.alloc(), &[2, 3], 1, &turns, &THREE);
 }
 
 /// A seat copies table 0, and removes its first key from table 1.
@@ -225,45 +223,43 @@ const HAS_SIX_COPIED: [Step; 16] = [
 ];
 
 /// A, B and C ask for a chunk each of a table of two. What C is handed lies past the table's end.
-const THREE_HELP: [(usize, &[Step]); 6] = [
-    (0, &FILLS_TWO_CHUNKS),
-    (0, &[Helps(8)]),
-    (2, &[Top(0)]),
-    (1, &[Helps(8)]),
-    (2, &[Helps(0), Takes(24), Top(1)]),
-    (2, &HAS_SIX_COPIED),
-];
-
 #[test]
 fn three_helpers(rt: HostRuntime) {
-    story(&rt, rt.alloc(), &[4, 5], 3, &THREE_HELP, &SIX);
+    let turns: [(usize, &[Step]); 6] = [
+        (0, &FILLS_TWO_CHUNKS),
+        (0, &[Helps(8)]),
+        (2, &[Top(0)]),
+        (1, &[Helps(8)]),
+        (2, &[Helps(0), Takes(24), Top(1)]),
+        (2, &HAS_SIX_COPIED),
+    ];
+    story(&rt, rt.alloc(), &[4, 5], 3, &turns, &SIX);
 }
 
 /// A takes a chunk and stops. B copies the other one. A then takes what lies past the table's end.
 /// B copies what A left, which raises the top word, and A finds each slot of its chunk copied.
-const ANOTHER_FINISHES: [(usize, &[Step]); 6] = [
-    (0, &FILLS_TWO_CHUNKS),
-    (0, &[Takes(0)]),
-    (1, &[Helps(8)]),
-    (0, &[Takes(16)]),
-    (1, &[Top(0), Completes, Top(1)]),
-    (
-        0,
-        &[
-            KnownTop(0),
-            Copies(0, false),
-            Copies(1, false),
-            Copies(2, false),
-            Copies(3, false),
-            Copies(4, false),
-            Copies(5, false),
-            Copies(6, false),
-            Copies(7, false),
-        ],
-    ),
-];
-
 #[test]
 fn finished_by_another(rt: HostRuntime) {
-    story(&rt, rt.alloc(), &[4, 5], 2, &ANOTHER_FINISHES, &SIX);
+    let turns: [(usize, &[Step]); 6] = [
+        (0, &FILLS_TWO_CHUNKS),
+        (0, &[Takes(0)]),
+        (1, &[Helps(8)]),
+        (0, &[Takes(16)]),
+        (1, &[Top(0), Completes, Top(1)]),
+        (
+            0,
+            &[
+                KnownTop(0),
+                Copies(0, false),
+                Copies(1, false),
+                Copies(2, false),
+                Copies(3, false),
+                Copies(4, false),
+                Copies(5, false),
+                Copies(6, false),
+                Copies(7, false),
+            ],
+        ),
+    ];
+    story(&rt, rt.alloc(), &[4, 5], 2, &turns, &SIX);
 }

@@ -7,7 +7,7 @@ ghost use Rattle.nb_table.specs.Chains.{AreOwn, IsOwn};
 use nb_core::{Change, Key, NotAll, Num, Reply, Shape, Want, encode_key, encode_value};
 use nb_map::PutFault;
 use nb_map::steps::{NoPause, put_if_match_in};
-use nb_table::{Chain, ChainSeat, Closed};
+use nb_table::{Chain, ChainSeat};
 use std::alloc::Global;
 use std::process::Abort;
 
@@ -98,8 +98,15 @@ pub(super) fn value_in<R: Abort>(
     encode_value(chain.load_value(seat, g, i, None))
 }
 
-/// Closes the chain with all its seats; without the last one it comes back.
-fn closed<R: Abort>(rt: &R, chain: Chain, seats: Vec<ChainSeat>) -> Closed
+/// Closes the chain with all its seats; without the last one it comes back, and what is in it.
+/// These keys are left, each with its number, and key 1000 isn't.
+pub(super) fn leaves<R: Abort>(
+    rt: &R,
+    alloc: Global,
+    chain: Chain,
+    seats: Vec<ChainSeat>,
+    pairs: &[(u64, u64)],
+)
     requires { AreOwn chain seats.items }
 {
     let mut seats = seats;
@@ -110,14 +117,9 @@ fn closed<R: Abort>(rt: &R, chain: Chain, seats: Vec<ChainSeat>) -> Closed
         panic!(rt; "a seat is missing")
     };
     seats.push(last).expect(rt, "memory");
-    match whole.close(seats) {
-        Ok(closed) => closed,
-        Err(_) => panic!(rt; "all seats are there"),
-    }
-}
-
-/// Sees that just these keys are left, in this order, each with its number, and not the key 1000.
-fn has_left<R: Abort>(rt: &R, alloc: Global, closed: &Closed, pairs: &[(u64, u64)]) {
+    let Ok(closed) = whole.close(seats) else {
+        panic!(rt; "all seats are there")
+    };
     let entries = closed.entries(alloc).expect(rt, "memory");
     assert_eq!(rt; entries.len(), pairs.len());
     for (entry, (k, n)) in entries.iter().zip(pairs) {
@@ -125,17 +127,4 @@ fn has_left<R: Abort>(rt: &R, alloc: Global, closed: &Closed, pairs: &[(u64, u64
         assert_eq!(rt; closed.get(entry.0), Some(entry.1));
     }
     assert_eq!(rt; closed.get(key(rt, 1000)), None);
-}
-
-/// Closes the chain. These keys are left, each with its number.
-pub(super) fn leaves<R: Abort>(
-    rt: &R,
-    alloc: Global,
-    chain: Chain,
-    seats: Vec<ChainSeat>,
-    pairs: &[(u64, u64)],
-)
-    requires { AreOwn chain seats.items }
-{
-    has_left(rt, alloc, &closed(rt, chain, seats), pairs);
 }

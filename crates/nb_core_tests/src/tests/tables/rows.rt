@@ -1,7 +1,5 @@
 //! Calls one after another, with the replies and the slots that they leave; and writes before whose
 //! exchange another seat writes.
-ghost use Rattle.std.specs.Prelude.{◌≤◌};
-ghost use Rattle.nb_table.specs.Chains.{IsOwn};
 
 use super::on_chain::*;
 use super::steps::Step::*;
@@ -154,23 +152,22 @@ fn same_size_full(rt: HostRuntime) {
 }
 
 /// A puts three keys, B grows the chain for a fourth and copies them, and A finds all four.
-const FINDS_COPIED: [(usize, &[Step]); 3] = [
-    (0, &[Put(0, 10), Put(4, 14), Put(8, 18)]),
-    (1, &[Put(12, 22), Top(1)]),
-    (
-        0,
-        &[
-            Get(0, Some(10)),
-            Get(4, Some(14)),
-            Get(8, Some(18)),
-            Get(12, Some(22)),
-        ],
-    ),
-];
-
 #[test]
 fn finds_what_another_copied(rt: HostRuntime) {
-    story(&rt, rt.alloc(), &[2, 3, 4], 2, &FINDS_COPIED, &FOUR);
+    let turns: [(usize, &[Step]); 3] = [
+        (0, &[Put(0, 10), Put(4, 14), Put(8, 18)]),
+        (1, &[Put(12, 22), Top(1)]),
+        (
+            0,
+            &[
+                Get(0, Some(10)),
+                Get(4, Some(14)),
+                Get(8, Some(18)),
+                Get(12, Some(22)),
+            ],
+        ),
+    ];
+    story(&rt, rt.alloc(), &[2, 3, 4], 2, &turns, &FOUR);
 }
 
 /// A seat that puts a number at a key once, before the first exchange of another seat's write. It
@@ -199,31 +196,9 @@ impl Pause for PutsOnce {
     }
 }
 
-/// The answer of a write of the other seat's key with so many tries. The other seat puts its number
-/// before the first exchange. It pauses once before each exchange, of which the write makes as many as
-/// it has tries.
-fn writes_beside<R: Abort>(
-    rt: &R,
-    chain: &Chain,
-    seat: &mut ChainSeat,
-    change: Change,
-    tries: u32,
-    other: &mut PutsOnce,
-) -> Result<Reply, PutFault>
-    requires some { 1 ≤ tries }
-    requires own { IsOwn chain.now seat.old }
-    requires other { IsOwn chain.now other.old.seat }
-    ensures other { IsOwn chain.now other.new.seat }
-{
-    let key = other.key;
-    let answer = put_if_match_in(chain, seat, key, Want::Any, change, tries, other);
-    let by_other = other.answer.expect(rt, "the other seat put its number");
-    assert!(rt; other.pauses == u64::from(tries) && by_other.is_ok());
-    answer
-}
-
 /// The answer of a write of key 7 with so many tries, before whose first exchange another seat puts
-/// 6 there, and what is there afterwards.
+/// 6 there, and what is there afterwards. It pauses once before each exchange, of which it makes as
+/// many as it has tries.
 fn contends<R: Abort>(
     rt: &R,
     alloc: Global,
@@ -234,15 +209,18 @@ fn contends<R: Abort>(
     let mut a = taken(rt, &chain, &mut seats);
     let seat = taken(rt, &chain, &mut seats);
     assert!(rt; tries > 0);
-    let mut other = PutsOnce {
+    let seven = key(rt, 7);
+    let mut pause = PutsOnce {
         seat,
-        key: key(rt, 7),
+        key: seven,
         number: number(rt, 6),
         answer: None,
         pauses: 0,
     };
-    let answer = writes_beside(rt, &chain, &mut a, change, tries, &mut other);
-    (answer, get_in(&chain, &mut other.seat, key(rt, 7)))
+    let answer = put_if_match_in(&chain, &mut a, seven, Want::Any, change, tries, &mut pause);
+    let by_other = pause.answer.expect(rt, "the other seat put its number");
+    assert!(rt; pause.pauses == u64::from(tries) && by_other.is_ok());
+    (answer, get_in(&chain, &mut pause.seat, seven))
 }
 
 /// The rows contended_once and add_contended_once: a put of 5, and an add of 5.

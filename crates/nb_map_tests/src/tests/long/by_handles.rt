@@ -74,22 +74,11 @@ fn is_written<R: Abort>(
     }
 }
 
-/// Whether a put came to this.
-fn puts<R: Wait + Abort>(
-    rt: &R,
-    handle: &mut Handle<u64>,
-    k: u64,
-    new: u64,
-    due: Option<bool>,
-) -> bool {
-    is_written(rt, handle.put(rt, key(rt, k), new), new, due)
-}
-
 /// Makes a write, and answers whether it comes to what the row says.
 fn writes<R: Wait + Abort>(rt: &R, handle: &mut Handle<u64>, call: Call) -> bool {
     match call {
-        Put(k, new) => puts(rt, handle, k, new, Some(true)),
-        Refuse(k) => puts(rt, handle, k, 0, None),
+        Put(k, new) => is_written(rt, handle.put(rt, key(rt, k), new), new, Some(true)),
+        Refuse(k) => is_written(rt, handle.put(rt, key(rt, k), 0), 0, None),
         PutIfAbsent(k, new, done) => {
             let end = handle.put_if_absent(rt, key(rt, k), new);
             is_written(rt, end, new, Some(done))
@@ -118,7 +107,12 @@ fn makes<R: Wait + Abort>(rt: &R, alloc: Global, handle: &mut Handle<u64>, call:
     match call {
         Remove(k, done) => handle.remove(rt, key(rt, k)).is_some() == done,
         RemoveIf(k, old, done) => handle.remove_if(rt, key(rt, k), &old) == Ok(done),
-        TakeIf(k, old, done) => takes_if(rt, handle, k, old) == Some(done),
+        TakeIf(k, old, done) => {
+            match handle.take_if(rt, key(rt, k), &old) {
+                Ok(compared) => compared.done == done,
+                Err(_) => false,
+            }
+        }
         Value(k, value) => value_at(rt, handle, key(rt, k)) == value,
         Occupancy(taken, looked) => {
             let seen = handle.occupancy();
@@ -126,50 +120,22 @@ fn makes<R: Wait + Abort>(rt: &R, alloc: Global, handle: &mut Handle<u64>, call:
         }
         Seats(seats) => handle.shape().seats() == seats,
         Settle(size) => handle.settle(alloc) == size,
-        List(due) => lists(rt, alloc, handle, due),
+        List(values) => match (handle.entries(alloc), values) {
+            (Ok(entries), Ok(values)) => are_just(rt, handle, entries.as_slice(), values),
+            (Err(fault), Err(due)) => fault == due,
+            _ => false,
+        },
         Renew(sizes, end, count) => {
             handle.renew(alloc, shape(rt, sizes)) == end && handle.seats() == count
         }
-        RenewStore(sizes, carried) => renews_store(rt, alloc, handle, sizes) == carried,
+        RenewStore(sizes, carried) => {
+            match handle.renew_store(rt, alloc, shape(rt, sizes)) {
+                Ok(renewed) => carried == Ok(renewed.carried.len()),
+                Err(fault) => carried == Err(fault),
+            }
+        }
         Without => handle.split().is_ok(),
         _ => writes(rt, handle, call),
-    }
-}
-
-/// Asks for the removal of a key where it has this value, and answers whether it had, if that was told.
-fn takes_if<R: Wait + Abort>(rt: &R, handle: &mut Handle<u64>, k: u64, old: u64) -> Option<bool> {
-    match handle.take_if(rt, key(rt, k), &old) {
-        Ok(compared) => Some(compared.done),
-        Err(_) => None,
-    }
-}
-
-/// Makes the map anew with a new store, and answers how many values were carried there.
-fn renews_store<R: Wait + Abort>(
-    rt: &R,
-    alloc: Global,
-    handle: &mut Handle<u64>,
-    sizes: Sizes,
-) -> Result<usize, RenewStoreFault> {
-    match handle.renew_store(rt, alloc, shape(rt, sizes)) {
-        Ok(renewed) => Ok(renewed.carried.len()),
-        Err(fault) => Err(fault),
-    }
-}
-
-/// Whether just these keys are listed, each with the number of its value, or none for this reason.
-fn lists<R: Abort>(
-    rt: &R,
-    alloc: Global,
-    handle: &mut Handle<u64>,
-    due: Result<&[(u64, u64)], SettleFault>,
-) -> bool {
-    match handle.entries(alloc) {
-        Ok(entries) => match due {
-            Ok(values) => are_just(rt, handle, entries.as_slice(), values),
-            Err(_) => false,
-        },
-        Err(fault) => due.err() == Some(fault),
     }
 }
 

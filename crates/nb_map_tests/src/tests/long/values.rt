@@ -196,42 +196,25 @@ fn is_refused<R: Wait + Abort>(
     }
 }
 
-/// Asks for the removal of a key where it has a value.
-fn removes_if<R: Wait + Abort>(
-    rt: &R,
-    alloc: Global,
-    map: &LongMap<Bytes>,
-    seat: &mut Seat,
-    k: u64,
-    old: &[u8],
-) -> bool
-    requires own { IsMine map.now.map seat.old }
-    ensures own { IsMine map.now.map seat.new }
-{
-    let old = bytes(rt, alloc, old);
-    let removed = map.remove_if(rt, seat, key(rt, k), &old);
-    removed.expect(rt, "each number is shown")
-}
-
-/// The same, where the key is there. What it has is read by the token of what was compared.
+/// Asks for the removal of a key where it has a value. What it has is read by the token of what was
+/// compared.
 fn takes_if<R: Wait + Abort>(
     rt: &R,
-    alloc: Global,
     map: &LongMap<Bytes>,
     seat: &mut Seat,
     k: u64,
-    old: &[u8],
+    old: &Bytes,
 ) -> bool
     requires own { IsMine map.now.map seat.old }
     ensures own { IsMine map.now.map seat.new }
 {
-    let Ok(compared) = map.take_if(rt, seat, key(rt, k), &bytes(rt, alloc, old)) else {
+    let Ok(compared) = map.take_if(rt, seat, key(rt, k), old) else {
         panic!(rt; "each number is shown")
     };
     let Some(found) = &compared.found else {
         panic!(rt; "the key is there")
     };
-    assert!(rt; compared.done == reads(map, found, old));
+    assert!(rt; compared.done == reads(map, found, old.as_slice()));
     compared.done
 }
 
@@ -239,18 +222,16 @@ fn takes_if<R: Wait + Abort>(
 /// compared, and the value that was to come by its receipt.
 fn replaces_if<R: Wait + Abort>(
     rt: &R,
-    alloc: Global,
     map: &LongMap<Bytes>,
     seat: &mut Seat,
     k: u64,
-    old: &[u8],
-    new: &[u8],
+    old: &Bytes,
+    new: Bytes,
 ) -> bool
     requires own { IsMine map.now.map seat.old }
     ensures own { IsMine map.now.map seat.new }
 {
-    let (was, new) = (bytes(rt, alloc, old), bytes(rt, alloc, new));
-    let Ok(replaced) = map.replace_if_told(rt, seat, key(rt, k), &was, new) else {
+    let Ok(replaced) = map.replace_if_told(rt, seat, key(rt, k), old, new) else {
         panic!(rt; "there is room")
     };
     let Some(found) = &replaced.found else {
@@ -258,7 +239,7 @@ fn replaces_if<R: Wait + Abort>(
     };
     let Stored { before, done, .. } = &replaced.stored;
     assert!(rt; *before == Some(found.number()));
-    assert!(rt; *done == reads(map, found, old));
+    assert!(rt; *done == reads(map, found, old.as_slice()));
     *done
 }
 
@@ -300,9 +281,15 @@ fn makes<R: Wait + Abort>(
             false
         }
         Remove => map.remove(rt, seat, key(rt, k)).is_some(),
-        ReplaceIfTold(old, new) => replaces_if(rt, alloc, map, seat, k, old, new),
-        RemoveIf(old) => removes_if(rt, alloc, map, seat, k, old),
-        TakeIf(old) => takes_if(rt, alloc, map, seat, k, old),
+        ReplaceIfTold(old, new) => {
+            let (old, new) = (bytes(rt, alloc, old), bytes(rt, alloc, new));
+            replaces_if(rt, map, seat, k, &old, new)
+        }
+        RemoveIf(old) => {
+            let removed = map.remove_if(rt, seat, key(rt, k), &bytes(rt, alloc, old));
+            removed.expect(rt, "each number is shown")
+        }
+        TakeIf(old) => takes_if(rt, map, seat, k, &bytes(rt, alloc, old)),
         Update => updates(rt, map, seat, k),
     }
 }

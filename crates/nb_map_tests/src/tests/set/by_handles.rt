@@ -45,23 +45,16 @@ fn looks<R: Abort>(rt: &R, alloc: Global, handle: &mut Handle, call: Call) -> bo
         }
         Seats(seats) => handle.shape().seats() == seats,
         Settle(size) => handle.settle(alloc) == size,
-        List(due) => lists(alloc, handle, due),
+        List(numbers) => match (handle.keys(alloc), numbers) {
+            (Ok(keys), Ok(numbers)) => are_just(keys.as_slice(), numbers),
+            (Err(fault), Err(due)) => fault == due,
+            _ => false,
+        },
         Renew(sizes, end, count) => {
             handle.renew(alloc, shape(rt, sizes)) == end && handle.seats() == count
         }
         Without => handle.split().is_ok(),
         _ => false,
-    }
-}
-
-/// Whether just these keys are listed, in whatever order, or none for this reason.
-fn lists(alloc: Global, handle: &mut Handle, due: Result<&[u64], SettleFault>) -> bool {
-    match handle.keys(alloc) {
-        Ok(keys) => match due {
-            Ok(numbers) => are_just(keys.as_slice(), numbers),
-            Err(_) => false,
-        },
-        Err(fault) => due.err() == Some(fault),
     }
 }
 

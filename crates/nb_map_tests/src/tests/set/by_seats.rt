@@ -1,6 +1,5 @@
 //! Calls of a set by its seats. A call that takes memory is made again where its memory is refused,
 //! and then has it.
-ghost use Rattle.std.specs.Prelude.{◌≡◌};
 ghost use Rattle.nb_set.specs.Sets.{AreMine, IsMine};
 
 use super::super::plain::{Sizes, key, shape};
@@ -170,39 +169,8 @@ fn rests<R: Abort>(rt: &R, alloc: Global, set: &LongSet, seats: &mut Vec<Seat>, 
     assert!(rt; are_just(listed(rt, alloc, set, seats).as_slice(), numbers));
 }
 
-/// Without one of its seats the set neither settles nor ends: it comes back, with the others.
-fn comes_back<R: Abort>(
-    rt: &R,
-    alloc: Global,
-    set: LongSet,
-    seats: Vec<Seat>,
-) -> (LongSet, Vec<Seat>)
-    requires { AreMine set seats.items }
-    ensures set { result.0 ≡ set }
-    ensures seats { AreMine set result.1.items }
-{
-    let mut seats = seats;
-    assert!(rt; settles(alloc, &set, &mut seats) == Err(SettleFault::NotAll));
-    match set.finish(seats) {
-        Err(NotAll { whole, seats }) => (whole, seats),
-        Ok(_) => panic!(rt; "a seat is missing"),
-    }
-}
-
-/// A seat works on, meets another one, and that one sees what it did.
-fn works_and_meets<R: Wait + Abort>(rt: &R, set: &LongSet, seat: &mut Seat, other: &mut Seat)
-    requires seat { IsMine set.now seat.old }
-    requires other { IsMine set.now other.old }
-    ensures seat { IsMine set.now seat.new }
-    ensures other { IsMine set.now other.new }
-{
-    sees(rt, set, seat, &[Contains(1, true), Add(3, Some(true))]);
-    set.meet(seat, other);
-    sees(rt, set, other, &[Contains(3, true)]);
-}
-
-/// A seat is taken out, without which the set comes back. It works on, and meets another one. Then both
-/// are given back.
+/// A seat is taken out, without which the set neither settles nor ends, and works on: it comes
+/// back, and the seat meets another one. Then both are given back.
 fn works_on<R: Wait + Abort>(
     rt: &R,
     alloc: Global,
@@ -214,12 +182,22 @@ fn works_on<R: Wait + Abort>(
 {
     let mut seats = seats;
     let mut seat = taken(rt, &set, &mut seats);
-    let (set, mut seats) = comes_back(rt, alloc, set, seats);
-    let mut other = taken(rt, &set, &mut seats);
-    works_and_meets(rt, &set, &mut seat, &mut other);
-    given_back(rt, &set, &mut seats, other);
-    given_back(rt, &set, &mut seats, seat);
-    (set, seats)
+    assert!(rt; settles(alloc, &set, &mut seats) == Err(SettleFault::NotAll));
+    let Err(NotAll { whole, mut seats }) = set.finish(seats) else {
+        panic!(rt; "a seat is missing")
+    };
+    let mut other = taken(rt, &whole, &mut seats);
+    sees(
+        rt,
+        &whole,
+        &mut seat,
+        &[Contains(1, true), Add(3, Some(true))],
+    );
+    whole.meet(&mut seat, &mut other);
+    sees(rt, &whole, &mut other, &[Contains(3, true)]);
+    given_back(rt, &whole, &mut seats, other);
+    given_back(rt, &whole, &mut seats, seat);
+    (whole, seats)
 }
 
 #[test]
