@@ -1,0 +1,13 @@
+mod Cells
+mod Goes
+mod Maps
+mod Places
+mod Refused
+mod Rows
+mod Sealed
+mod Seen
+mod Sound
+mod Stays
+mod Steps
+mod Tests
+mod Whole

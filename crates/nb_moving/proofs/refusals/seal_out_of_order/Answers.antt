@@ -1,0 +1,13 @@
+use Rattle.std.proofs.Common.{refl}
+use Rattle.nb_moving.specs.Examples.{seal_out_of_order}
+use Rattle.nb_moving.proofs.Refused.{legal_before, seals_before, seal_out_of_order_refused}
+use Rattle.nb_moving.proofs.refusals.seal_out_of_order.Goals as goal
+
+pub returns-clause-legal : goal.returns-clause-legal
+returns-clause-legal c = legal_before seal_out_of_order refl
+
+pub returns-clause-seals : goal.returns-clause-seals
+returns-clause-seals c = seals_before seal_out_of_order refl
+
+pub returns-clause-refused : goal.returns-clause-refused
+returns-clause-refused c = seal_out_of_order_refused
