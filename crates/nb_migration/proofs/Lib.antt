@@ -1,0 +1,3 @@
+mod OpenWrites
+mod Replied
+mod Stepped

@@ -1,0 +1,15 @@
+use Rattle.std.proofs.Common.{Err, false, true}
+use Rattle.nb_migration.proofs.Stepped.{refused_step, replied_step}
+use Rattle.nb_migration.proofs.settling.exchange.Goals as goal
+
+pub returns-in-Ok-clause-stepped : goal.returns-in-Ok-clause-stepped
+returns-in-Ok-clause-stepped c =
+    replied_step c.in-Ok.reply true c.if-reply.true c.in-Ok.ensures.wrote c.seen_of.ensures
+
+pub returns-in-Ok-2-clause-stepped : goal.returns-in-Ok-2-clause-stepped
+returns-in-Ok-2-clause-stepped c =
+    replied_step c.in-Ok.reply false c.if-reply.false c.in-Ok.ensures.wrote
+    c.seen_of-in-Ok-2.ensures
+
+pub returns-in-Err-clause-stepped : goal.returns-in-Err-clause-stepped
+returns-in-Err-clause-stepped c = refused_step c.in-Err.refusal c.in-Err.ensures.wrote c.fault_of.ensures

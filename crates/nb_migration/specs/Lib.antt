@@ -1,0 +1,4 @@
+pub mod Numbers
+pub mod Writes
+pub mod Settling
+pub mod Copying
