@@ -1,3 +1,5 @@
 mod OpenWrites
 mod Replied
 mod Stepped
+mod Told
+pub mod Theorems

@@ -2,3 +2,4 @@ pub mod Numbers
 pub mod Writes
 pub mod Settling
 pub mod Copying
+pub mod Laws
