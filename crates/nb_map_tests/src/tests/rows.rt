@@ -175,10 +175,17 @@ fn tries_if<R: Wait + Abort + AllocGlobal>(
 fn first<R: Abort>(rt: &R, handle: &mut Handle, at: Key, number: Num) -> Answer {
     assert!(rt; handle.shape().generations() == 1);
     match handle.put_if_new(at, number) {
-        Ok(FirstPut::Put) => Nothing,
-        Ok(FirstPut::Found(found)) => Was(found.get()),
-        Ok(FirstPut::Removed) => Is(false),
+        Ok(put) => first_told(put),
         Err(Full) => FULL,
+    }
+}
+
+/// What a put at a key that never had a number has come to.
+fn first_told(put: FirstPut) -> Answer {
+    match put {
+        FirstPut::Put => Nothing,
+        FirstPut::Found(found) => Was(found.get()),
+        FirstPut::Removed => Is(false),
     }
 }
 
