@@ -1,14 +1,25 @@
-/* memory.c - the memory of libsamvolip.so and libsamvolip.a, in C and not proved. Small blocks are the program's malloc's, as they
-   are without this file. Large ones, which the tables of large maps need, are the system's: in huge pages where Linux has some, and
-   given back when they are freed. But of a size that is in use two freed blocks are kept for the next ones, up to KEPT: a map that is
-   renewed takes its tables by turns, and need not wait for the system to clear pages. Blocks of a middling size, which the tables of a
-   map's parts are, lie several of a size in a tray, a large block, so that they are in huge pages, too. Two trays are kept until
-   somebody takes a block that is larger than they are. The linker puts these
-   functions in place of those that the library's code calls (--wrap, by the file `links`).
+/* memory.c - the memory of libsamvolip.so and libsamvolip.a, in C and not proved. The linker puts its functions in place of those that
+   the library's code calls (--wrap, by the file `links`). No call takes a lock or waits for another thread, whatever that does. A thread
+   that is stopped for good within one keeps the block that it takes or gives, and at most one slab or large block beside it.
 
-   A large block begins at a multiple of a huge page, and one in a tray at one of a page. So nearly all pointers are told at a glance to
-   be malloc's, and the others by the list of large blocks. The list has no lock, so nobody waits for a thread that was stopped, or that
-   a forked child lacks. */
+   Large blocks, from 2 MiB on, are pages of the system, huge ones where Linux has some. All others lie in slabs. The blocks of a slab are
+   of one size class; a bit for each says whether somebody has it. So a take and a give change a bit each, which is right however late it
+   comes, and nobody reads what lies in a free block. With its last block a slab's pages go; those of two are kept for the next ones. A
+   slab of small blocks is itself a block of a slab. All others, and large blocks, begin at a multiple of a huge page, a unit, of which a
+   map of two levels tells whose it is: a slab's, a large block's, or nothing of this file.
+
+   Who writes a shared word, and who reads it:
+
+   leaves[]                        who needs a leaf first, once                           who looks what is at an address
+   units[] of a leaf               who makes or gives back pages there                    who has a block there
+   slabs of a class, `after`       who adds slabs, in front; none is taken out            who looks for a slab with room, or one to make
+   near of a class                 who takes a block from another slab than that          who takes a block
+   held of a slab                  adds 1: who is about to take a block; subtracts 1: who gave one; puts CHANGES for 0 or NO_PAGES,
+                                   and another number then: who makes or unmakes the slab; all of these read it
+   begin of a slab                 who has put CHANGES there                              who has a block of it, or takes one
+   taken[] of a slab               its bit: who takes or gives a block; all: as `begin`   who takes one
+   used of a size                  who takes or gives a large block of it                 who gives one
+   kept[] of a size, or of slabs   who gives pages, for NULL; who takes them, NULL        the same */
 #define _GNU_SOURCE
 #include <stdatomic.h>
 #include <stdbool.h>
@@ -17,262 +28,401 @@
 #include <string.h>
 #include <sys/mman.h>
 
+#define PAGE ((size_t)1 << 12)
+#define UNIT ((size_t)1 << 21)
+#define SLAB ((size_t)1 << 23)
+#define SMALL_SLAB ((size_t)1 << 18)
+#define SMALL ((size_t)1 << 15)    /* the largest block of a small slab */
+#define MIDDLING ((size_t)7 << 15) /* larger ones are of whole pages, and their slabs in huge pages */
+#define LARGE UNIT
+#define KEPT ((size_t)1 << 24) /* the largest block that is kept */
+#if !defined(OURS_FROM) && (defined(__SANITIZE_ADDRESS__) || defined(__SANITIZE_THREAD__))
+#define OURS_FROM (MIDDLING + 1) /* smaller blocks are malloc's, which a sanitizer watches */
+#elif !defined(OURS_FROM)
+#define OURS_FROM 1
+#endif
+
 void *__real_malloc(size_t size);
 void *__real_realloc(void *block, size_t size);
 void __real_free(void *block);
 void *__real_memset(void *at, int byte, size_t size);
-void *__wrap_malloc(size_t size);
-void *__wrap_realloc(void *block, size_t size);
-void __wrap_free(void *block);
-void *__wrap_memset(void *at, int byte, size_t size);
 
-#define PAGE ((size_t)1 << 12)
-#define HUGE_PAGE ((size_t)1 << 21)
-#define MIDDLING ((size_t)1 << 18)
-#define LARGE HUGE_PAGE
-#define TRAY ((size_t)1 << 23)
-#define KEPT ((size_t)1 << 24) /* the largest block that is kept */
+/* ---- what is at an address ----------------------------------------------------------------- */
 
-/* The list: a place for each large block. Where all are taken, large blocks are malloc's, too. */
-static struct large {
-    _Atomic(uintptr_t) begin; /* 0: the place is free */
-    _Atomic(size_t) size;     /* whole pages */
-    _Atomic(size_t) kept;     /* 0: somebody has it, or it comes or goes; else how many were kept when it was, this one too */
-    _Atomic(size_t) each;     /* of a tray: the size of its blocks; else 0 */
-    _Atomic(uint64_t) taken;  /* of a tray: a bit for each block that somebody has; 0: it is about to go, and nobody takes one */
-} list[1024];
-static _Atomic(size_t) ever_kept;
+/* For each unit of addresses: 0; the address of the slab that it is of; or 1 more than the size of the large block that it is of. */
+enum { UNITS = 1 << 13, FIRST_LEAVES = 2 };
+typedef struct leaf {
+    _Atomic uintptr_t units[UNITS];
+} leaf;
+static leaf *_Atomic leaves[UNITS];
+static leaf first_leaves[FIRST_LEAVES];
+static _Atomic unsigned leaves_made;
 
-enum { PLACES = sizeof list / sizeof *list };
-_Static_assert(TRAY / MIDDLING < 64, "a tray has a bit for each block");
-
-/* The place of the large block that begins there; NULL where none does. */
-static struct large *large_at(const void *at)
+static void *new_zeros(size_t size)
 {
-    uintptr_t begin = (uintptr_t)at;
-    if (begin % HUGE_PAGE != 0 || begin == 0)
+    void *room = mmap(NULL, size, PROT_READ | PROT_WRITE, MAP_PRIVATE | MAP_ANONYMOUS, -1, 0);
+    return room == MAP_FAILED ? NULL : room;
+}
+
+/* The leaf that somebody puts there first; NULL without memory. One that comes too late is left for good. */
+static leaf *make_leaf(leaf *_Atomic *place)
+{
+    unsigned number = atomic_fetch_add_explicit(&leaves_made, 1, memory_order_relaxed);
+    leaf *fresh = number < FIRST_LEAVES ? &first_leaves[number] : new_zeros(sizeof *fresh), *there = NULL;
+    bool is_first = fresh && atomic_compare_exchange_strong_explicit(place, &there, fresh, memory_order_release, memory_order_acquire);
+    return is_first ? fresh : there;
+}
+
+/* The word of an address's unit; NULL where there is no leaf, and none is to be made or can be. */
+static _Atomic uintptr_t *unit_of(const void *at, bool makes)
+{
+    uintptr_t unit = (uintptr_t)at / UNIT;
+    if (unit / UNITS >= UNITS) /* more than the 47 bits of those that mmap gives */
         return NULL;
-    for (size_t i = 0; i < PLACES; i++)
-        if (atomic_load(&list[i].begin) == begin)
-            return &list[i];
+    leaf *in = atomic_load_explicit(&leaves[unit / UNITS], memory_order_acquire);
+    if (!in && makes)
+        in = make_leaf(&leaves[unit / UNITS]);
+    return in ? &in->units[unit % UNITS] : NULL;
+}
+
+static uintptr_t what_is_at(const void *at)
+{
+    _Atomic uintptr_t *unit = unit_of(at, false);
+    return unit ? atomic_load_explicit(unit, memory_order_acquire) : 0;
+}
+
+/* Says what the whole units of some pages are of; false without memory. */
+static bool is_told(const char *begin, size_t size, uintptr_t what)
+{
+    for (; size >= UNIT; begin += UNIT, size -= UNIT) {
+        _Atomic uintptr_t *unit = unit_of(begin, true);
+        if (!unit)
+            return false;
+        atomic_store_explicit(unit, what, memory_order_release);
+    }
+    return true;
+}
+
+/* ---- pages --------------------------------------------------------------------------------- */
+
+/* Of slabs, or of large blocks of a size: pages that are kept for the next one; and how many such blocks are in use. */
+typedef struct pages {
+    _Atomic size_t used;
+    char *_Atomic kept[2];
+} pages;
+static pages for_slabs, sizes[KEPT / PAGE + 1]; /* sizes[0] is of all that are too large to be kept */
+
+/* Gives pages back to the system. Their units tell so before: once they are back, another's may come there. */
+static void give_back(char *begin, size_t size)
+{
+    is_told(begin, size, 0);
+    if (munmap(begin, size) != 0)
+        madvise(begin, size, MADV_DONTNEED);
+}
+
+static char *take_kept(pages *of)
+{
+    char *first = atomic_exchange_explicit(&of->kept[0], NULL, memory_order_acquire);
+    return first ? first : atomic_exchange_explicit(&of->kept[1], NULL, memory_order_acquire);
+}
+
+static bool is_kept(pages *of, char *begin)
+{
+    char *none = NULL, *no_other = NULL;
+    return atomic_compare_exchange_strong_explicit(&of->kept[0], &none, begin, memory_order_release, memory_order_relaxed)
+        || atomic_compare_exchange_strong_explicit(&of->kept[1], &no_other, begin, memory_order_release, memory_order_relaxed);
+}
+
+static void give_kept_back(pages *of, size_t size)
+{
+    for (char *kept; (kept = take_kept(of));)
+        give_back(kept, size);
+}
+
+/* Pages that were kept, or new ones, which are all zero; their units tell what they are for. NULL without memory. They begin at a multiple
+   of a unit: it takes room for one, and gives back what is before it and after the last page. */
+static char *take_pages(pages *of, size_t size, uintptr_t what, bool are_huge)
+{
+    char *begin = take_kept(of), *room = begin ? NULL : new_zeros(size + UNIT);
+    if (room) {
+        size_t before = -(uintptr_t)room % UNIT;
+        begin = room + before;
+        if (before > 0)
+            munmap(room, before);
+        munmap(begin + size, UNIT - before);
+        if (are_huge)
+            madvise(begin, size, MADV_HUGEPAGE);
+    }
+    if (!begin || is_told(begin, size, what))
+        return begin;
+    give_back(begin, size);
     return NULL;
 }
 
-/* Whether there was a place for this block, which has it now. */
-static bool is_listed(const void *block, size_t size)
+/* ---- large blocks -------------------------------------------------------------------------- */
+
+static pages *of_size(size_t whole) { return &sizes[whole <= KEPT ? whole / PAGE : 0]; }
+
+/* With the last block of a size those that are kept go. */
+static void use_less(pages *of, size_t whole)
 {
-    for (size_t i = 0; i < PLACES; i++) {
-        uintptr_t none = 0;
-        if (atomic_load(&list[i].begin) == none && atomic_compare_exchange_strong(&list[i].begin, &none, (uintptr_t)block)) {
-            atomic_store(&list[i].size, size);
-            return true;
-        }
-    }
-    return false;
+    if (atomic_fetch_sub_explicit(&of->used, 1, memory_order_acq_rel) == 1)
+        give_kept_back(of, whole);
 }
 
-/* Takes the kept block of this size that was kept first; NULL where there is none. The first is the best: who clears a block gives its
-   pages back, and frees it before the one that others wrote. */
-static struct large *take_kept(size_t size)
+/* A block of whole pages; NULL where the system has none. */
+static void *take_large(size_t whole)
 {
-    for (;;) {
-        struct large *first = NULL;
-        size_t least = SIZE_MAX, kept;
-        for (size_t i = 0; i < PLACES; i++)
-            if ((kept = atomic_load(&list[i].kept)) != 0 && kept < least && atomic_load(&list[i].size) == size) {
-                first = &list[i];
-                least = kept;
-            }
-        if (first == NULL || atomic_compare_exchange_strong(&first->kept, &least, 0)) /* no two are kept with the same number */
-            return first;
-    }
-}
-
-/* How many blocks of this size somebody has, or are kept. */
-static size_t count_blocks(size_t size, bool are_kept)
-{
-    size_t count = 0;
-    for (size_t i = 0; i < PLACES; i++)
-        count += atomic_load(&list[i].begin) != 0 && atomic_load(&list[i].size) == size && atomic_load(&list[i].each) == 0
-            && (atomic_load(&list[i].kept) != 0) == are_kept;
-    return count;
-}
-
-/* Gives a block back to the system. It leaves the list first: once the pages are back, another block may begin there. */
-static void give_back(struct large *large)
-{
-    char *block = (char *)atomic_load(&large->begin);
-    size_t size = atomic_load(&large->size);
-    atomic_store(&large->begin, 0);
-    if (munmap(block, size) != 0)
-        madvise(block, size, MADV_DONTNEED);
-}
-
-/* Whole pages, all zero, that begin at a multiple of a huge page; NULL where the system has none. It takes room for such a multiple
-   and gives back what is before it and after the last page. */
-static void *new_pages(size_t size)
-{
-    char *room = mmap(NULL, size + HUGE_PAGE, PROT_READ | PROT_WRITE, MAP_PRIVATE | MAP_ANONYMOUS, -1, 0);
-    if (room == MAP_FAILED)
-        return NULL;
-    size_t before = -(uintptr_t)room % HUGE_PAGE;
-    if (before > 0)
-        munmap(room, before);
-    munmap(room + before + size, HUGE_PAGE - before);
-    madvise(room + before, size, MADV_HUGEPAGE);
-    return room + before;
-}
-
-static void give_kept_back(size_t size)
-{
-    struct large *large;
-    while ((large = take_kept(size)) != NULL)
-        give_back(large);
-}
-
-__attribute__((destructor)) static void end(void) { give_kept_back(TRAY); }
-
-/* A large block of whole pages, one that was kept where there is one; NULL where the system has none. Where the list is full it is
-   malloc's, of so many bytes. */
-static void *new_large(size_t whole, size_t size)
-{
-    if (whole > TRAY)
-        give_kept_back(TRAY);
-    const struct large *kept = whole <= KEPT ? take_kept(whole) : NULL;
-    void *block = kept ? (void *)kept->begin : new_pages(whole);
-    if (kept || block == NULL || is_listed(block, whole))
-        return block;
-    munmap(block, whole);
-    return __real_malloc(size);
-}
-
-/* Keeps a block that is free now, or gives it back. */
-static void free_large(struct large *large)
-{
-    size_t size = atomic_load(&large->size);
-    if (size <= KEPT && (size == TRAY || count_blocks(size, false) > 1) && count_blocks(size, true) < 2)
-        atomic_store(&large->kept, atomic_fetch_add(&ever_kept, 1) + 1);
-    else
-        give_back(large);
-    if (size != TRAY && count_blocks(size, false) == 0) /* nobody has such a block any more */
-        give_kept_back(size);
-}
-
-/* ---- trays --------------------------------------------------------------------------------- */
-
-/* The tray in which that is; NULL where it is in none. */
-static struct large *tray_of(const void *at)
-{
-    uintptr_t place = (uintptr_t)at;
-    if (place % PAGE != 0)
-        return NULL;
-    for (size_t i = 0; i < PLACES; i++) {
-        size_t each = atomic_load(&list[i].each);
-        uintptr_t begin = atomic_load(&list[i].begin);
-        if (each != 0 && place - begin < TRAY && atomic_load(&list[i].each) == each && atomic_load(&list[i].begin) == begin)
-            return &list[i]; /* read twice: between the two looks another block may have come to the place of a tray that went */
-    }
-    return NULL;
-}
-
-/* Gives a block back to its tray, which goes with its last one. Once no block is taken nobody takes one any more. */
-static void put_back(struct large *tray, uint64_t block)
-{
-    if (atomic_fetch_and(&tray->taken, ~block) != block)
-        return;
-    atomic_store(&tray->each, 0);
-    free_large(tray);
-}
-
-/* Takes a block of a tray; NULL where all are taken, or the tray isn't one of such blocks any more. */
-static void *take_from(struct large *tray, size_t each)
-{
-    uint64_t were = atomic_load(&tray->taken), block;
-    size_t count = TRAY / each;
-    do {
-        block = ~were & (were + 1); /* the lowest one that is free, so that as few pages as may be are touched */
-        if (were == 0 || block >= (uint64_t)1 << count)
-            return NULL;
-    } while (!atomic_compare_exchange_weak(&tray->taken, &were, were | block));
-    if (atomic_load(&tray->each) == each) /* it stays so while the block is taken */
-        return (char *)atomic_load(&tray->begin) + (size_t)__builtin_ctzll(block) * each;
-    put_back(tray, block);
-    return NULL;
-}
-
-/* A block of a new tray. */
-static void *new_tray(size_t each)
-{
-    void *block = new_large(TRAY, each);
-    struct large *tray = large_at(block);
-    if (tray != NULL) {
-        atomic_store(&tray->taken, 1);
-        atomic_store(&tray->each, each);
-    }
+    pages *of = of_size(whole);
+    if (whole > SLAB)
+        give_kept_back(&for_slabs, SLAB);
+    atomic_fetch_add_explicit(&of->used, 1, memory_order_relaxed);
+    char *block = take_pages(of, whole, whole + 1, true);
+    if (!block)
+        use_less(of, whole);
     return block;
 }
 
-static void *middling(size_t size)
+/* If others of its size are in use, the block is kept: a map that is renewed takes its tables by turns, and need not wait for the system to
+   clear pages. */
+static void give_large(char *block, size_t whole)
 {
-    size_t each = (size + PAGE - 1) / PAGE * PAGE;
-    for (size_t i = 0; i < PLACES; i++) {
-        void *block = atomic_load(&list[i].each) == each ? take_from(&list[i], each) : NULL;
-        if (block != NULL)
-            return block;
-    }
-    void *block = new_tray(each);
-    return block ? block : __real_malloc(size);
+    pages *of = of_size(whole);
+    if (whole > KEPT || atomic_load_explicit(&of->used, memory_order_relaxed) < 2 || !is_kept(of, block))
+        give_back(block, whole);
+    use_less(of, whole);
 }
+
+/* ---- slabs --------------------------------------------------------------------------------- */
+
+/* A slab is never freed, nor of another class later; its pages come and go. */
+typedef struct slab {
+    _Alignas(64) struct slab *after;
+    uint32_t each;
+    uint16_t count, class; /* how many blocks it has */
+    _Atomic uint64_t held; /* how many of them threads have, or are about to take or to give; or one of the next two */
+    char *_Atomic begin;
+    _Atomic uint64_t taken[4]; /* where there is no block a bit stays set; of a small slab they are in its head */
+} slab;
+#define NO_PAGES ((uint64_t)1 << 32)
+#define CHANGES ((uint64_t)1 << 33) /* a thread makes or unmakes it */
+
+/* How a small slab begins. Its last block ends with it. */
+typedef struct head {
+    slab *of;
+    _Atomic uint64_t taken[];
+} head;
+
+/* A class for each size of blocks, and one of small slabs. */
+enum { SMALL_SLABS = 503, CLASSES, FIRST_SLABS = 512, MORE_SLABS = PAGE / sizeof(slab) };
+static struct class {
+    slab *_Atomic slabs, *_Atomic near;
+} classes[CLASSES];
+static slab first_slabs[FIRST_SLABS];
+static _Atomic unsigned slabs_made;
+
+static void *take(unsigned class, size_t each);
+static void give(slab *to, char *block);
+
+static bool is_small(const slab *one) { return one->each <= SMALL; }
+static _Atomic uint64_t *taken_in(slab *one, char *begin) { return is_small(one) ? ((head *)(void *)begin)->taken : one->taken; }
+static char *first_block(const slab *one, char *begin) { return is_small(one) ? begin + SMALL_SLAB - one->count * one->each : begin; }
+
+/* The slab of a block in such a unit. */
+static slab *slab_of(uintptr_t unit, const void *block)
+{
+    slab *outer = (slab *)unit;
+    return outer->class == SMALL_SLABS ? ((head *)((uintptr_t)block & -SMALL_SLAB))->of : outer;
+}
+
+/* How many blocks a slab has. The head of a small one has a bit for each that would have room without it. */
+static size_t count_of(size_t each)
+{
+    size_t head_size = sizeof(head) + (SMALL_SLAB / each + 63) / 64 * sizeof(uint64_t);
+    return each <= SMALL ? (SMALL_SLAB - (head_size + 63) / 64 * 64) / each : SLAB / each;
+}
+
+/* Adds slabs without pages to a class, and returns one of them, which this thread changes; NULL without memory. */
+static slab *add_slabs(unsigned class, size_t each)
+{
+    slab *_Atomic *slabs = &classes[class].slabs, *first = atomic_load_explicit(slabs, memory_order_relaxed);
+    unsigned made = atomic_fetch_add_explicit(&slabs_made, 1, memory_order_relaxed), count = made < FIRST_SLABS ? 1 : MORE_SLABS;
+    slab *fresh = count == 1 ? &first_slabs[made] : new_zeros(PAGE);
+    if (!fresh)
+        return NULL;
+    for (unsigned i = 0; i < count; i++) {
+        fresh[i].after = &fresh[i + 1];
+        fresh[i].each = (uint32_t)each;
+        fresh[i].count = (uint16_t)count_of(each);
+        fresh[i].class = (uint16_t)class;
+        atomic_store_explicit(&fresh[i].held, i == 0 ? CHANGES : NO_PAGES, memory_order_relaxed);
+    }
+    do
+        fresh[count - 1].after = first;
+    while (!atomic_compare_exchange_weak_explicit(slabs, &first, fresh, memory_order_release, memory_order_relaxed));
+    return fresh;
+}
+
+/* Whether a slab's count of blocks was this one, and this thread changes the slab now. */
+static bool changes(slab *one, uint64_t from)
+{
+    return atomic_load_explicit(&one->held, memory_order_relaxed) == from
+        && atomic_compare_exchange_strong_explicit(&one->held, &from, CHANGES, memory_order_acquire, memory_order_relaxed);
+}
+
+/* A new slab, of which this thread is about to take a block; NULL without memory. */
+static slab *make_slab(unsigned class, size_t each)
+{
+    slab *one = atomic_load_explicit(&classes[class].slabs, memory_order_acquire);
+    while (one && !changes(one, NO_PAGES))
+        one = one->after;
+    if (!one && !(one = add_slabs(class, each)))
+        return NULL;
+    bool are_huge = each > MIDDLING && class != SMALL_SLABS;
+    char *begin = is_small(one) ? take(SMALL_SLABS, SMALL_SLAB) : take_pages(&for_slabs, SLAB, (uintptr_t)one, are_huge);
+    if (begin && is_small(one))
+        ((head *)(void *)begin)->of = one;
+    for (unsigned i = 0; begin && i < one->count; i += 64) {
+        uint64_t no_blocks = one->count - i < 64 ? UINT64_MAX << (one->count - i) : 0;
+        atomic_store_explicit(&taken_in(one, begin)[i / 64], no_blocks, memory_order_relaxed);
+    }
+    atomic_store_explicit(&one->begin, begin, memory_order_relaxed);
+    atomic_store_explicit(&one->held, begin ? 1 : NO_PAGES, memory_order_release);
+    return begin ? one : NULL;
+}
+
+/* Takes away the pages of a slab, if nobody has a block of it, nor is about to take one. */
+static void unmake_slab(slab *one)
+{
+    if (!changes(one, 0))
+        return;
+    char *begin = atomic_load_explicit(&one->begin, memory_order_relaxed);
+    if (is_small(one))
+        give((slab *)what_is_at(begin), begin);
+    else if (!is_kept(&for_slabs, begin))
+        give_back(begin, SLAB);
+    atomic_store_explicit(&one->held, NO_PAGES, memory_order_release);
+}
+
+/* Whether this thread may take a block of the slab: it has pages, and more blocks than threads have or take. The exchange fails where
+   another thread took or gave one meanwhile. */
+static bool has_room(slab *one)
+{
+    uint64_t held = atomic_load_explicit(&one->held, memory_order_relaxed);
+    while (held < one->count)
+        if (atomic_compare_exchange_weak_explicit(&one->held, &held, held + 1, memory_order_acquire, memory_order_relaxed))
+            return true;
+    return false;
+}
+
+/* Takes the lowest block that is free, so that few pages are touched. At each moment there is one, so a round that finds none has been
+   overtaken by other threads' takes. */
+static char *take_from(slab *one)
+{
+    char *begin = atomic_load_explicit(&one->begin, memory_order_relaxed);
+    _Atomic uint64_t *taken = taken_in(one, begin);
+    for (unsigned i = 0;; i = i + 64 < one->count ? i + 64 : 0) {
+        uint64_t were = atomic_load_explicit(&taken[i / 64], memory_order_relaxed), block;
+        while ((block = ~were & (were + 1)) != 0)
+            if (atomic_compare_exchange_weak_explicit(&taken[i / 64], &were, were | block, memory_order_acquire, memory_order_relaxed))
+                return first_block(one, begin) + (i + (size_t)__builtin_ctzll(block)) * one->each;
+    }
+}
+
+/* A block of a class; NULL without memory. */
+static void *take(unsigned class, size_t each)
+{
+    slab *near = atomic_load_explicit(&classes[class].near, memory_order_acquire), *from = near;
+    if (!from || !has_room(from)) {
+        from = atomic_load_explicit(&classes[class].slabs, memory_order_acquire);
+        while (from && !has_room(from))
+            from = from->after;
+    }
+    if (!from && !(from = make_slab(class, each)))
+        return NULL;
+    if (from != near)
+        atomic_store_explicit(&classes[class].near, from, memory_order_release);
+    return take_from(from);
+}
+
+/* Gives a block back, and with the last one the pages of its slab. */
+static void give(slab *to, char *block)
+{
+    char *begin = atomic_load_explicit(&to->begin, memory_order_relaxed);
+    size_t at = (size_t)(block - first_block(to, begin)) / to->each;
+    atomic_fetch_and_explicit(&taken_in(to, begin)[at / 64], ~((uint64_t)1 << at % 64), memory_order_release);
+    if (atomic_fetch_sub_explicit(&to->held, 1, memory_order_release) == 1)
+        unmake_slab(to);
+}
+
+__attribute__((destructor)) static void end(void) { give_kept_back(&for_slabs, SLAB); }
 
 /* ---- what stands for the C library's ------------------------------------------------------- */
 
+/* How large a block is that has so many bytes: four sizes for each power of two, or whole pages. And the class of such blocks. */
+static size_t rounded(size_t size)
+{
+    size_t step = size > MIDDLING ? PAGE : size <= 256 ? 32 : (size_t)1 << (61 - __builtin_clzl(size - 1));
+    return (size + step - 1) & -step;
+}
+
+static unsigned class_of(size_t each)
+{
+    if (each <= 256 || each > MIDDLING)
+        return (unsigned)(each <= 256 ? each / 32 - 1 : each / PAGE - 10);
+    unsigned power = 63 - (unsigned)__builtin_clzl(each - 1);
+    return 4 * power + (unsigned)(each >> (power - 2)) - 29;
+}
+
+/* Clearing a large block from a unit on gives the whole pages back to the system, and they are zero whatever was in them. Pages that nobody
+   has touched cost nothing so. */
+void *__wrap_memset(void *at, int byte, size_t size)
+{
+    bool is_large = byte == 0 && size >= LARGE && (uintptr_t)at % UNIT == 0 && what_is_at(at) % 2 == 1;
+    size_t cleared = is_large && madvise(at, size / PAGE * PAGE, MADV_DONTNEED) == 0 ? size / PAGE * PAGE : 0;
+    __real_memset((char *)at + cleared, byte, size - cleared);
+    return at; /* so that it is a call and no jump: a thread sanitizer that doesn't see units knows blocks by this function */
+}
+
 void *__wrap_malloc(size_t size)
 {
-    if (size < LARGE)
-        return size < MIDDLING ? __real_malloc(size) : middling(size);
-    if (size > PTRDIFF_MAX - HUGE_PAGE)
-        return NULL;
-    return new_large((size + PAGE - 1) / PAGE * PAGE, size);
+    if (size < OURS_FROM || size > PTRDIFF_MAX - UNIT)
+        return size < OURS_FROM ? __real_malloc(size) : NULL;
+    size_t each = rounded(size);
+    return size < LARGE ? take(class_of(each), each) : take_large(each);
+}
+
+void *__wrap_calloc(size_t count, size_t each)
+{
+    size_t size;
+    void *block = __builtin_mul_overflow(count, each, &size) ? NULL : __wrap_malloc(size);
+    return block ? __wrap_memset(block, 0, size) : NULL;
 }
 
 void __wrap_free(void *block)
 {
-    struct large *tray = tray_of(block), *large = tray ? NULL : large_at(block);
-    if (tray != NULL) {
-        put_back(tray, (uint64_t)1 << ((uintptr_t)block - atomic_load(&tray->begin)) / atomic_load(&tray->each));
-        return;
-    }
-    if (large != NULL)
-        free_large(large);
-    else
+    uintptr_t what = what_is_at(block);
+    if (what == 0)
         __real_free(block);
+    else if (what % 2 == 1)
+        give_large(block, what - 1);
+    else
+        give(slab_of(what, block), block);
 }
 
 /* What malloc gave stays with malloc, however much it grows. */
 void *__wrap_realloc(void *block, size_t size)
 {
-    const struct large *tray = tray_of(block), *large = tray ? NULL : large_at(block);
-    if (tray == NULL && large == NULL)
+    uintptr_t what = what_is_at(block);
+    if (block != NULL && what == 0)
         return __real_realloc(block, size);
-    size_t had = tray ? tray->each : large->size;
+    size_t had = what % 2 == 1 ? what - 1 : block ? slab_of(what, block)->each : 0;
+    if (size >= OURS_FROM && size <= had && rounded(size) == had)
+        return block;
     void *other = __wrap_malloc(size);
-    if (other != NULL) {
+    if (other != NULL && block != NULL) {
         memcpy(other, block, size < had ? size : had);
         __wrap_free(block);
     }
     return other;
-}
-
-/* Clearing a large block from its beginning on gives the whole pages back to the system, and they are zero whatever was in them.
-   Pages that nobody has touched cost nothing so. */
-void *__wrap_memset(void *at, int byte, size_t size)
-{
-    const struct large *large = byte == 0 && size >= LARGE ? large_at(at) : NULL;
-    size_t whole = size / PAGE * PAGE;
-    if (large == NULL || madvise(at, whole, MADV_DONTNEED) != 0) {
-        __real_memset(at, byte, size); /* a call, and no jump: a thread sanitizer that doesn't see the list knows blocks by this function */
-        return at;
-    }
-    __real_memset((char *)at + whole, 0, size - whole);
-    return at;
 }

@@ -1,21 +1,25 @@
 /* The functions of src/memory.c by themselves. They are linked into this program as into the library, so they stand for its own
-   malloc, realloc, free and memset, too (-fno-builtin leaves each of its calls a call): what blocks hold when they are new, when they
-   move and when they are cleared, many blocks at once, blocks that aren't theirs, and threads.
+   malloc, calloc, realloc, free and memset, too (-fno-builtin leaves each of its calls a call): what blocks hold when they are new, when
+   they move and when they are cleared, many blocks at once, blocks that aren't theirs, threads, threads that are stopped for good, forks,
+   and memory that is refused.
        blocks [TURNS]          how often each of eight threads takes a block and frees another */
-#define _GNU_SOURCE
+#define OURS_FROM 1
+#include "../src/memory.c"
+
 #include "expect.h"
 
 #include <malloc.h>
 #include <pthread.h>
 #include <sched.h>
-#include <stdint.h>
-#include <string.h>
-#include <sys/mman.h>
+#include <signal.h>
 #include <sys/prctl.h>
+#include <sys/resource.h>
 #include <sys/syscall.h>
+#include <sys/wait.h>
+#include <time.h>
 #include <unistd.h>
 
-enum { THREADS = 8, MANY = 1100 };
+enum { THREADS = 8, MANY = 1100, STOPPED = 300 };
 
 #define MIB ((size_t)1 << 20)
 
@@ -44,6 +48,58 @@ static unsigned char *taken(size_t size)
     unsigned char *block = malloc(size);
     EXPECT(block != NULL && (uintptr_t)block % 16 == 0);
     return block;
+}
+
+/* Each size has a class, and no two classes have the same. No more than a quarter of a block is left over, or 31 bytes. */
+static void classes_of_sizes(void)
+{
+    size_t last = 0;
+    unsigned classes_seen = 0;
+    for (size_t size = 1; size < LARGE; size++) {
+        size_t each = rounded(size);
+        EXPECT(each >= size && each % 16 == 0 && (each - size < 32 || each - size < each / 5));
+        if (each != last)
+            EXPECT(class_of(each) == classes_seen++);
+        EXPECT(class_of(each) == classes_seen - 1 && each >= last && count_of(each) >= 4);
+        EXPECT(each <= SMALL || count_of(each) <= 256);
+        last = each;
+    }
+    EXPECT(classes_seen == SMALL_SLABS && SLAB / SMALL_SLAB <= 256);
+}
+
+enum { SOME_SMALL = 20000 }; /* more than two slabs have room for */
+
+/* Small ones of a size lie beside each other. What was given back is taken again, and no more addresses are. */
+static void small_blocks(size_t size)
+{
+    static unsigned char *blocks[SOME_SMALL];
+    const size_t some = size < 32 ? SOME_SMALL : 600000 / size + 3;
+    double before = 0;
+    for (int turn = 0; turn < 3; turn++) {
+        for (size_t i = turn == 0 ? 0 : 1; i < some; i += turn == 0 ? 1 : 2)
+            memset(blocks[i] = taken(size), (int)i, size);
+        for (size_t i = 0; i < some; i++)
+            EXPECT(is_all(blocks[i], (int)i % 256, size));
+        EXPECT(turn > 0 || blocks[1] == blocks[0] + rounded(size));
+        EXPECT(turn == 0 || IS_SANITIZED || expect_mebibytes().all == before);
+        before = expect_mebibytes().all;
+        for (size_t i = 1; i < some; i += 2)
+            free(blocks[i]);
+    }
+    for (size_t i = 0; i < some; i += 2)
+        free(blocks[i]);
+}
+
+static void zeroed_blocks(void)
+{
+    volatile size_t many = SIZE_MAX / 4;
+    for (size_t size = 24; size < 10 * MIB; size *= 3) {
+        unsigned char *block = memset(taken(size), 7, size);
+        free(block);
+        EXPECT((block = calloc(size / 8, 8)) != NULL && is_all(block, 0, size));
+        free(block);
+    }
+    EXPECT(calloc(many, 5) == NULL && calloc(many / 2, 4) == NULL);
 }
 
 static void new_blocks(void)
@@ -100,8 +156,8 @@ static void cleared_blocks(void)
 
 static void moved_blocks(void)
 {
-    static const size_t sizes[] = {1,           MIB / 4 - 1, MIB / 4, MIB / 2 + 16, 2 * MIB - 1, 2 * MIB,
-                                   3 * MIB + 5, 3 * MIB + 6, 9 * MIB, MIB + 1,      100};
+    static const size_t sizes[] = {1,           MIB / 4 - 1, MIB / 4, MIB / 2 + 16, 2 * MIB - 1, 2 * MIB, 3 * MIB + 5,
+                                   3 * MIB + 6, 9 * MIB,     MIB + 1, 100,          127,         33000,   7000};
     for (size_t i = 0; i < sizeof sizes / sizeof *sizes; i++)
         for (size_t j = 0; j < sizeof sizes / sizeof *sizes; j++) {
             size_t both = sizes[i] < sizes[j] ? sizes[i] : sizes[j];
@@ -122,7 +178,7 @@ static void moved_blocks(void)
     free(block);
 }
 
-/* More than are listed: the rest is malloc's. They are in small pages, so that not all of them are taken. */
+/* In small pages, so that not all of them are taken. */
 static void many_blocks(void)
 {
     static unsigned char *blocks[MANY];
@@ -162,10 +218,10 @@ static void kept_blocks(size_t size)
     EXPECT(IS_SANITIZED || expect_mebibytes().all < before - 4 * mebibytes + 1);
 }
 
-enum { SOME = 100 }; /* more than two trays have room for */
+enum { SOME = 100 }; /* more than two slabs have room for */
 
-/* Those of a middling size lie beside each other, the lowest free one first, and their pages go with the last of them, but for two
-   trays, which are kept for the next ones, also of another size. */
+/* Those of a middling size lie beside each other, the lowest free one first, and their pages go with the last of them, but for those
+   of two slabs, which are kept for the next ones, also of another size. */
 static void middling_blocks(size_t size)
 {
     static unsigned char *blocks[SOME];
@@ -248,7 +304,7 @@ static void *takes_blocks(void *given)
         }
         sizes[at] = 2 * MIB + state / 4 % (state % 16 < 8 ? 8 : MIB); /* often of one size, so that freed blocks are kept and taken */
         if (state / 16 % 2)
-            sizes[at] = MIB / 4 + state / 32 % 3 * 4096; /* few of each, so that trays come and go */
+            sizes[at] = MIB / 4 + state / 32 % 3 * 4096; /* few of each, so that slabs come and go */
         blocks[at] = block = taken(sizes[at]);
         block[0] = block[sizes[at] - 1] = taker->mark;
     }
@@ -269,13 +325,225 @@ static void in_threads(int turns)
         EXPECT(pthread_join(takers[i].thread, NULL) == 0);
 }
 
+/* ---- blocks of all sizes that go from thread to thread ---------------------------------------- */
+
+/* How many turns each of some threads has made, which go on until they are told to end. */
+struct churner {
+    pthread_t thread;
+    uint64_t state;
+    _Atomic int turns;
+};
+static struct churner churners[3];
+static _Atomic bool is_over;
+static unsigned char *_Atomic passed[64]; /* each begins with its size, and is else full of one byte */
+
+static uint64_t drawn(uint64_t *state)
+{
+    *state ^= *state << 13;
+    *state ^= *state >> 7;
+    return *state ^= *state << 17;
+}
+
+static void check_and_free(unsigned char *block)
+{
+    size_t size;
+    if (block == NULL)
+        return;
+    memcpy(&size, block, sizeof size);
+    EXPECT(is_all(block + sizeof size, block[sizeof size], size - sizeof size));
+    free(block);
+}
+
+/* Takes a block of any size, mostly a small one, and leaves it in place of another, which it frees. */
+static void pass_one(uint64_t *state)
+{
+    size_t most = (size_t)1 << (drawn(state) % 64 ? 5 + drawn(state) % 11 : 22), size = 16 + drawn(state) % most;
+    unsigned char *block = malloc(size);
+    if (block != NULL) {
+        memcpy(block, &size, sizeof size);
+        memset(block + sizeof size, (int)drawn(state), size - sizeof size);
+    }
+    check_and_free(atomic_exchange_explicit(&passed[drawn(state) % 64], block, memory_order_acq_rel));
+}
+
+static void *churns(void *given)
+{
+    struct churner *mine = given;
+    while (!atomic_load_explicit(&is_over, memory_order_relaxed)) {
+        pass_one(&mine->state);
+        atomic_fetch_add_explicit(&mine->turns, 1, memory_order_relaxed);
+    }
+    return NULL;
+}
+
+static void begin_churning(void)
+{
+    atomic_store_explicit(&is_over, false, memory_order_relaxed);
+    for (unsigned i = 0; i < 3; i++) {
+        churners[i].state = 88172645463325252 + i;
+        EXPECT(pthread_create(&churners[i].thread, NULL, churns, &churners[i]) == 0);
+    }
+}
+
+/* Each of the threads makes so many turns more. */
+static void expect_turns(int turns)
+{
+    for (int i = 0; i < 3; i++) {
+        int before = atomic_load_explicit(&churners[i].turns, memory_order_relaxed);
+        while (atomic_load_explicit(&churners[i].turns, memory_order_relaxed) - before < turns)
+            nanosleep(&(struct timespec){.tv_nsec = 20000}, NULL);
+    }
+}
+
+static void end_churning(void)
+{
+    atomic_store_explicit(&is_over, true, memory_order_relaxed);
+    for (int i = 0; i < 3; i++)
+        EXPECT(pthread_join(churners[i].thread, NULL) == 0);
+    for (int i = 0; i < 64; i++)
+        check_and_free(atomic_exchange_explicit(&passed[i], NULL, memory_order_acq_rel));
+}
+
+static void passed_blocks(int turns)
+{
+    begin_churning();
+    expect_turns(5 * turns);
+    end_churning();
+}
+
+/* ---- in a process of its own --------------------------------------------------------------- */
+
+/* Runs a function in a forked process, which has to end well within a minute. */
+static void in_child(void (*run)(void))
+{
+    int status;
+    pid_t child = fork();
+    EXPECT(child >= 0);
+    if (child == 0) {
+        alarm(60);
+        run();
+        _exit(0);
+    }
+    EXPECT(waitpid(child, &status, 0) == child && status == 0);
+}
+
+static _Thread_local volatile sig_atomic_t is_within;
+static _Atomic int stopped;
+
+static void stops_for_good(int signal)
+{
+    (void)signal;
+    if (!is_within)
+        return;
+    atomic_fetch_add_explicit(&stopped, 1, memory_order_relaxed);
+    for (;;)
+        pause();
+}
+
+static void *takes_until_stopped(void *given)
+{
+    uint64_t state = 88172645463325252 + (uintptr_t)given;
+    while (!is_within) {
+        size_t size = (size_t)1 << drawn(&state) % (drawn(&state) % 16 ? 21 : 23);
+        is_within = 1;
+        void *block = malloc(size);
+        is_within = 0;
+        sched_yield();
+        is_within = 1;
+        free(block);
+        is_within = 0;
+    }
+    return NULL;
+}
+
+static pthread_t thread_to_stop(int number)
+{
+    pthread_attr_t attributes;
+    pthread_t thread;
+    EXPECT(pthread_attr_init(&attributes) == 0 && pthread_attr_setstacksize(&attributes, 1 << 16) == 0);
+    EXPECT(pthread_create(&thread, &attributes, takes_until_stopped, (void *)(uintptr_t)number) == 0);
+    return thread;
+}
+
+/* Threads are stopped for good within a take or a give, one after another, by a signal. Others go on. What those had in hand is lost, and
+   all else is used again. */
+static void stopped_threads(void)
+{
+    const struct sigaction action = {.sa_handler = stops_for_good};
+    pthread_t threads[4];
+    uint64_t state = 88172645463325252;
+    EXPECT(sigaction(SIGUSR1, &action, NULL) == 0);
+    for (int i = 0; i < 4; i++)
+        threads[i] = thread_to_stop(i);
+    double before = expect_mebibytes().present;
+    for (int i = 0; i < STOPPED; i++) {
+        while (atomic_load_explicit(&stopped, memory_order_relaxed) == i) {
+            nanosleep(&(struct timespec){.tv_nsec = 1 + i * 7919 % 50000}, NULL);
+            EXPECT(pthread_kill(threads[i % 4], SIGUSR1) == 0);
+        }
+        for (int turn = 0; turn < 100; turn++)
+            pass_one(&state);
+        threads[i % 4] = thread_to_stop(i);
+    }
+    EXPECT(expect_mebibytes().present < before + STOPPED / 2);
+}
+
+/* A child has the blocks of its parent, whose threads may have vanished within a take or a give. It takes and gives blocks, too. */
+static void churns_on(void)
+{
+    uint64_t state = 88172645463325252;
+    for (int i = 0; i < 50; i++)
+        pass_one(&state);
+    for (int i = 0; i < 64; i++)
+        check_and_free(atomic_exchange_explicit(&passed[i], NULL, memory_order_acq_rel));
+}
+
+static void forks(void)
+{
+    begin_churning();
+    for (int i = 0; i < 20; i++)
+        in_child(churns_on);
+    end_churning();
+}
+
+/* Where memory is refused, all blocks stay as they are; and once they are given back, as many can be taken again. */
+static void refused_blocks(void)
+{
+    enum { MOST = 100000 };
+    static unsigned char *blocks[MOST];
+    static const size_t sizes[] = {48, 3000, 20000, 100000, MIB, 3 * MIB};
+    struct rlimit limit;
+    EXPECT(getrlimit(RLIMIT_AS, &limit) == 0);
+    limit.rlim_cur = (rlim_t)(expect_mebibytes().all + 40) * MIB;
+    EXPECT(setrlimit(RLIMIT_AS, &limit) == 0);
+    for (size_t i = 0; i < sizeof sizes / sizeof *sizes; i++) {
+        int counts[2] = {0, 0};
+        for (int turn = 0; turn < 2; turn++) {
+            int *count = &counts[turn];
+            for (; *count < MOST && (blocks[*count] = malloc(sizes[i])) != NULL; ++*count)
+                memset(blocks[*count], *count, sizes[i]);
+            EXPECT(*count == MOST || calloc(1, sizes[i]) == NULL);
+            EXPECT(*count > 0 && realloc(blocks[0], 50 * MIB) == NULL);
+            for (int one = 0; one < *count; one++) {
+                EXPECT(is_all(blocks[one], one % 256, sizes[i]));
+                free(blocks[one]);
+            }
+        }
+        EXPECT(counts[0] <= counts[1]);
+    }
+}
+
 int main(int count, char **words)
 {
     int turns = count > 1 ? atoi(words[1]) : 2000;
     mallopt(M_MMAP_THRESHOLD, 1 << 17); /* so that malloc's large blocks go back, too */
     in_threads(10);                     /* whose stacks stay */
-    free(taken(9 * MIB));               /* and no tray */
+    free(taken(9 * MIB));               /* and no slab */
     double before = expect_mebibytes().all;
+    classes_of_sizes();
+    for (size_t size = 1; size <= SMALL; size += size / 3 + 1)
+        small_blocks(size);
+    zeroed_blocks();
     new_blocks();
     cleared_blocks();
     moved_blocks();
@@ -286,13 +554,19 @@ int main(int count, char **words)
     middling_blocks(MIB / 2 + 24);
     middling_blocks(MIB + 24);
     middling_blocks(2 * MIB - 1);
-    double with_trays = expect_mebibytes().all;
+    double with_slabs = expect_mebibytes().all;
     blocks_that_are_too_large_to_keep();
-    EXPECT(IS_SANITIZED || expect_mebibytes().all < with_trays - 15);
+    EXPECT(IS_SANITIZED || expect_mebibytes().all < with_slabs - 15);
     blocks_of_others();
     in_threads(turns);
+    passed_blocks(turns);
     free(taken(9 * MIB));
     EXPECT(expect_mebibytes().all < before + 1);
+    if (!IS_SANITIZED) {
+        in_child(stopped_threads);
+        in_child(refused_blocks);
+        forks();
+    }
     printf("blocks: well\n");
     return 0;
 }
