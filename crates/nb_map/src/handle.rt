@@ -67,7 +67,7 @@ impl Handle {
     }
 
     /// What the map has at a key.
-    #[inline]
+    #[inline(always)]
     pub fn get(&mut self, key: Key) -> Option<Num>
         ensures got { HasGot self.old.map key self.old.seat self.new.seat result }
         ensures rest { KeepsRest self.old self.new }

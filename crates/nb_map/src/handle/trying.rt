@@ -18,6 +18,7 @@ use nb_core::{Change, Key, Num, Reply, Want};
 impl Handle {
     /// Changes what the map has at a key, where the condition holds of it, and replies what it had:
     /// `Map::put_if_match`, which waits for nobody. No tries count as one.
+    #[inline(always)]
     pub fn put_if_match(
         &mut self,
         key: Key,
@@ -35,6 +36,7 @@ impl Handle {
     }
 
     /// `Map::try_put`.
+    #[inline(always)]
     pub fn try_put(&mut self, key: Key, number: Num, tries: u32) -> Result<Option<Num>, PutFault>
         ensures wrote { HasWritten self.old.map (put_of key number) self.old.seat self.new.seat
             (Tries (max tries 1)) (found_or_refused result) }
@@ -46,6 +48,7 @@ impl Handle {
     }
 
     /// `Map::try_put_if_absent`.
+    #[inline(always)]
     pub fn try_put_if_absent(
         &mut self,
         key: Key,
@@ -62,6 +65,7 @@ impl Handle {
     }
 
     /// `Map::try_add`.
+    #[inline(always)]
     pub fn try_add(&mut self, key: Key, number: Num, tries: u32) -> Result<Option<Num>, PutFault>
         ensures wrote { HasWritten self.old.map (add_of key number) self.old.seat self.new.seat
             (Tries (max tries 1)) (found_or_refused result) }
@@ -73,6 +77,7 @@ impl Handle {
     }
 
     /// `Map::try_remove`.
+    #[inline(always)]
     pub fn try_remove(&mut self, key: Key, tries: u32) -> Result<Option<Num>, PutFault>
         ensures wrote { HasWritten self.old.map (remove_of key) self.old.seat self.new.seat
             (Tries (max tries 1)) (found_or_refused result) }
@@ -84,6 +89,7 @@ impl Handle {
     }
 
     /// `Map::try_put_below`.
+    #[inline(always)]
     pub fn try_put_below(
         &mut self,
         key: Key,
@@ -101,6 +107,7 @@ impl Handle {
     }
 
     /// `Map::try_add_below`.
+    #[inline(always)]
     pub fn try_add_below(
         &mut self,
         key: Key,
@@ -118,6 +125,7 @@ impl Handle {
     }
 
     /// `Map::try_remove_below`.
+    #[inline(always)]
     pub fn try_remove_below(
         &mut self,
         key: Key,
@@ -135,6 +143,7 @@ impl Handle {
 
     /// Puts a number at a key that never had one in this map, which has one table:
     /// `Map::put_if_new`, which waits for nobody.
+    #[inline(always)]
     pub fn put_if_new(&mut self, key: Key, number: Num) -> Result<FirstPut, Full>
         requires one { generations_of self.old.map.chain.shape ≡ 1 }
         ensures wrote { HasPutIfNew self.old.map key number self.old.seat self.new.seat result }
@@ -144,6 +153,7 @@ impl Handle {
     }
 
     /// `Map::compare_exchange`.
+    #[inline(always)]
     pub fn compare_exchange(
         &mut self,
         key: Key,

@@ -12,6 +12,7 @@ use std::sync::Wait;
 
 impl Handle {
     /// Puts a number at a key, and answers what was there.
+    #[inline(always)]
     pub fn put<R: Wait>(&mut self, rt: &R, key: Key, number: Num) -> Result<Option<Num>, Full>
         ensures wrote { HasWritten self.old.map (put_of key number) self.old.seat self.new.seat
             Unlimited (found_or_full result) }
@@ -21,6 +22,7 @@ impl Handle {
     }
 
     /// Puts a number at a key that has none, and answers what was there.
+    #[inline(always)]
     pub fn put_if_absent<R: Wait>(
         &mut self,
         rt: &R,
@@ -57,6 +59,7 @@ impl Handle {
     }
 
     /// Takes out a key, and answers what was there.
+    #[inline(always)]
     pub fn remove<R: Wait>(&mut self, rt: &R, key: Key) -> Option<Num>
         ensures wrote { HasWritten self.old.map (remove_of key) self.old.seat self.new.seat
             Unlimited (Found result) }
@@ -75,6 +78,7 @@ impl Handle {
     }
 
     /// Raises the number at a key, an absent one counting as 0, and answers what was there.
+    #[inline(always)]
     pub fn add<R: Wait>(&mut self, rt: &R, key: Key, number: Num) -> Result<Option<Num>, AddFault>
         ensures wrote { HasWritten self.old.map (add_of key number) self.old.seat self.new.seat
             Unlimited (found_or_refused (uncontended result)) }
