@@ -116,7 +116,7 @@ no-tombstone (Read s c r) i change = change
 
 module _ (p : Plan) (plan : IsPlan p) (single : generations_of p ≡ 1) where
   -- a value is never primed
-  is-unprimed : (h : List Event) → IsLegal p h → (i : ℕ) → IsSlot p 0 i
+  pub is-unprimed : (h : List Event) → IsLegal p h → (i : ℕ) → IsSlot p 0 i
       → IsUnprimed ((tables_at p h).value 0 i)
   is-unprimed h legal i slot = elim ((linked p plan h legal).primed 0 i slot) [
     | inl unprimed ↦ unprimed

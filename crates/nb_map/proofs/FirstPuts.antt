@@ -24,7 +24,7 @@ module _ {map : MapOf} {key number : ℕ} {before after : SeatOf} (mine : IsMine
   -- it is made, and counted
   pub put-first :
       HasMade map.chain.shape (put_if_absent_of key number) before.chain after.chain
-      (first_made key number first.Put) (3 + search_steps map.chain.shape 0)
+      (first_made key number first.Put) (4 + search_steps map.chain.shape 0)
       → IsFirst map.chain.shape key number before.chain after.chain first.Put
       → after.count ≡ accounted (pos 1) before.count
       → HasPutIfNew map key number before after (Ok put.Put)
@@ -47,7 +47,7 @@ module _ {map : MapOf} {key number : ℕ} {before after : SeatOf} (mine : IsMine
   pub put-found :
       (n : ℕ)
       → HasMade map.chain.shape (put_if_absent_of key number) before.chain after.chain
-      (first_made key number (first.Found n)) (3 + search_steps map.chain.shape 0)
+      (first_made key number (first.Found n)) (4 + search_steps map.chain.shape 0)
       → IsFirst map.chain.shape key number before.chain after.chain (first.Found n)
       → after.count ≡ before.count
       → HasPutIfNew map key number before after (Ok (put.Found n))
@@ -61,7 +61,7 @@ module _ {map : MapOf} {key number : ℕ} {before after : SeatOf} (mine : IsMine
   pub put-full :
       (full : Full)
       → HasMade map.chain.shape (put_if_absent_of key number) before.chain after.chain
-      (first_made key number first.Full) (3 + search_steps map.chain.shape 0)
+      (first_made key number first.Full) (4 + search_steps map.chain.shape 0)
       → IsFirst map.chain.shape key number before.chain after.chain first.Full
       → before.chain.steps < after.chain.steps → after.count ≡ before.count
       → HasPutIfNew map key number before after (Err full)
@@ -87,7 +87,7 @@ pub looked-again :
     {map : MapOf} {key number : ℕ} {before then after : SeatOf} (mine : IsMine map before)
     (found : Option ℕ)
     → HasMade map.chain.shape (put_if_absent_of key number) before.chain then.chain
-    (first_made key number first.Had) (3 + search_steps map.chain.shape 0)
+    (first_made key number first.Had) (4 + search_steps map.chain.shape 0)
     → IsFirst map.chain.shape key number before.chain then.chain first.Had
     → then.count ≡ before.count → HasGot map key then after found
     → HasPutIfNew map key number before after (Ok (number_now found))

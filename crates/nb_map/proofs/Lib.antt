@@ -12,6 +12,7 @@ mod Earlier
 mod Entries
 mod Extended
 mod Filled
+mod FirstHome
 mod FirstNumber
 mod FirstPuts
 mod Firsts
@@ -42,6 +43,7 @@ mod Spent
 mod Straight
 mod Swept
 pub mod Theorems
+mod There
 mod Tried
 mod Turned
 mod Updated

@@ -10,6 +10,7 @@ pub mod Handles
 pub mod Updating
 pub mod Compound
 pub mod FirstPut
+pub mod Slots
 pub mod Walks
 pub mod Bulk
 pub mod Ending

@@ -105,9 +105,9 @@ put_steps p tries = 8 * (slots_below p (generations_of p) + tries + generations_
     * (size_of p (generations_of p - 1) + 8)
 
 -- the most steps of a put at a key that never had a number, in a map of one table: a load of its home
--- slot, a search for its slot, a load of the value and an exchange, and a read
+-- slot and a claim, a search for its slot, a load of the value and an exchange, and a read
 abbrev pub first_put_steps : Plan → ℕ
-first_put_steps p = 3 + search_steps p 0 + get_steps p
+first_put_steps p = 4 + search_steps p 0 + get_steps p
 
 -- the most steps of an update: a read, and so many exchanges with so many tries
 abbrev pub update_steps : Plan → (tries : ℕ) → ℕ

@@ -9,3 +9,4 @@ pub mod Walking
 pub mod Filling
 pub mod Waiting
 pub mod Firsts
+pub mod There

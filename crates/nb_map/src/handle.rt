@@ -13,6 +13,7 @@ mod opening;
 mod renewing;
 mod reserve;
 mod settling;
+mod slots;
 mod splitting;
 mod trying;
 mod waiting;

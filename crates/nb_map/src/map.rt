@@ -16,6 +16,7 @@ mod general;
 mod listing;
 mod opening;
 mod settling;
+mod slots;
 mod straight;
 mod trying;
 mod updating;

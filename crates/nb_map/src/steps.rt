@@ -11,6 +11,7 @@ pub(crate) mod rung;
 pub(crate) mod sample;
 pub(crate) mod search;
 pub(crate) mod slot;
+pub(crate) mod there;
 pub(crate) mod walk;
 pub(crate) mod write;
 

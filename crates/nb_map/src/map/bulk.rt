@@ -128,7 +128,7 @@ impl Map {
 
     /// Looks ahead at keys.
     #[inline(always)]
-    fn look_at(&self, seat: &mut Seat, keys: &[Key])
+    pub(super) fn look_at(&self, seat: &mut Seat, keys: &[Key])
         requires own { IsMine self.now seat.old }
         ensures looked { Grown self.now.chain.shape seat.old.chain seat.new.chain []
             (length keys.now) }

@@ -1,8 +1,10 @@
 //! A put of a number at a key that never had one, in a map of one table.
-ghost use Rattle.std.specs.Prelude.{IfOk, ◌+◌, ◌<◌, ◌≡◌};
+ghost use Rattle.std.specs.Prelude.{IfOk, IsTrue, [], ℕ, ◌+◌, ◌<◌, ◌≡◌};
+ghost use Rattle.nb_core.specs.Paths.{IsOnPathAt};
 ghost use Rattle.nb_core.specs.Plans.{generations_of};
 ghost use Rattle.nb_core.specs.States.{shown_by_value};
-ghost use Rattle.nb_table.specs.Chains.{IsOwn};
+ghost use Rattle.nb_core.specs.declared.states.KeyState.TheVariants as key_is;
+ghost use Rattle.nb_table.specs.Chains.{IsOwn, seen_by};
 ghost use Rattle.nb_map.specs.Calling.{HasMade};
 ghost use Rattle.nb_map.specs.NamedCalls.{put_if_absent_of};
 ghost use Rattle.nb_map.specs.Steps.{search_steps};
@@ -11,7 +13,7 @@ ghost use Rattle.nb_map.specs.inside.Firsts.{IsFirst, first_found, first_made};
 
 use crate::steps::claim::find;
 use crate::steps::rung::{Below, Rung, Visit};
-use nb_core::{Call, Change, Key, Num, Slot, ValueState, ValueWord, Want};
+use nb_core::{Call, Change, Key, KeyState, Num, Slot, ValueState, ValueWord, Want};
 use nb_table::{Chain, ChainSeat};
 
 /// What a put comes to that is made only at a key that never had a number.
@@ -29,17 +31,17 @@ pub(crate) enum First {
 
 /// Puts a number at a key that never had one: its slot's value is null then. A value that isn't
 /// null never is again, so a number that was removed doesn't come back. It looks at the key's home
-/// slot first, and searches where that isn't the key's.
+/// slot first, and searches where that is another key's.
 pub(crate) fn put_first_in(chain: &Chain, seat: &mut ChainSeat, key: Key, number: Num) -> First
     requires own { IsOwn chain.now seat.old }
     requires one { generations_of chain.now.shape ≡ 1 }
     ensures made { HasMade chain.now.shape (put_if_absent_of key number) seat.old seat.new
-        (first_made key number result) (3 + search_steps chain.now.shape 0) }
+        (first_made key number result) (4 + search_steps chain.now.shape 0) }
     ensures first { IsFirst chain.now.shape key number seat.old seat.new result }
     ensures looked { seat.old.steps < seat.new.steps }
 {
     let home = chain.shape().path(0, key).slot(0);
-    if chain.load_key_word_at(seat, home, None).is(key) {
+    if takes_home(chain, seat, key, home) {
         return first_at(chain, seat, key, number, home);
     }
     let call = Call::Write {
@@ -61,6 +63,29 @@ pub(crate) fn put_first_in(chain: &Chain, seat: &mut ChainSeat, key: Key, number
         // it fills an absent key, and there is no table above
         Err(Visit::Told(_)) => unreachable!(),
         Err(Visit::Above(_)) => unreachable!(),
+    }
+}
+
+/// Whether a key has its home slot, which is claimed for it where it is empty.
+#[inline(always)]
+fn takes_home(chain: &Chain, seat: &mut ChainSeat, key: Key, home: Slot) -> bool
+    requires own { IsOwn chain.now seat.old }
+    requires one { generations_of chain.now.shape ≡ 1 }
+    requires home { IsOnPathAt chain.now.shape 0 key 0 home }
+    ensures made { (number : ℕ) → HasMade chain.now.shape (put_if_absent_of key number) seat.old
+        seat.new [] 2 }
+    ensures claimed { IsTrue result → (seen_by chain.now.shape seat.new).key home.g home.i
+        ≡ key_is.Claimed key }
+    ensures looked { seat.old.steps < seat.new.steps }
+{
+    let word = chain.load_key_word_at(seat, home, None);
+    if !word.is_empty() {
+        return word.is(key);
+    }
+    match chain.claim_key_at(seat, home, key) {
+        KeyState::Empty => true,
+        KeyState::Claimed(other) => other == key,
+        KeyState::Dead => false,
     }
 }
 

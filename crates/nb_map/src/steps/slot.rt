@@ -1,6 +1,6 @@
 //! A call at its key's slot in a table, and a write at its home slot: what it does to what it finds
 //! there.
-ghost use Rattle.std.specs.Prelude.{IfSome, Some, [], ℕ, ◌+◌, ◌-◌, ◌≡◌, ◌≤◌};
+ghost use Rattle.std.specs.Prelude.{IfSome, Some, [], ℕ, ◌+◌, ◌-◌, ◌<◌, ◌≡◌, ◌≤◌};
 ghost use Rattle.nb_core.specs.Calls.{same_number};
 ghost use Rattle.nb_core.specs.Log.{holds_of};
 ghost use Rattle.nb_core.specs.States.{shown_by_value};
@@ -174,6 +174,7 @@ pub(crate) fn try_at<P: Pause>(
     ensures tried { IsTried chain.now.shape call.now seat.old seat.new slot tries.old tries.new
         result }
     ensures spent { IsSpent call.now seat.old seat.new tries.old tries.new }
+    ensures looked { seat.old.steps < seat.new.steps }
     ensures serves { P.serves pause.new chain.now }
 {
     let mut from = chain.load_value_word_at(seat, slot, Some(*call));

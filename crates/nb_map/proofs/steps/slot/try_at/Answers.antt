@@ -15,6 +15,7 @@ loop-number-init g c = record {
   tried = tried-first c.args.chain.now c.args.slot c.load_value_word_at-from.result c.args.tries.now
       c.load_value_word_at-from.ensures.grows c.load_value_word_at-from.ensures.found;
   some = c.requires.some;
+  looked = omega (arith, c.load_value_word_at-from.ensures.grows.steps);
   serves = c.requires.serves;
 }
 
@@ -29,6 +30,9 @@ returns-in-Leave-clause-made g c =
 
 pub returns-in-Leave-clause-spent : goal.returns-in-Leave-clause-spent
 returns-in-Leave-clause-spent g c = c.loop-number.invariant.tried.spent
+
+pub returns-in-Leave-clause-looked : goal.returns-in-Leave-clause-looked
+returns-in-Leave-clause-looked g c = c.loop-number.invariant.looked
 
 pub returns-in-Leave-clause-serves : goal.returns-in-Leave-clause-serves
 returns-in-Leave-clause-serves g c = c.loop-number.invariant.serves
@@ -51,6 +55,7 @@ returns-in-Overflow g c =
         no-read c.args.call.now c.in-Some.number refused.0,
       );
       spent = tried.spent;
+      looked = c.loop-number.invariant.looked;
       serves = c.loop-number.invariant.serves;
     }
 
@@ -86,6 +91,7 @@ returns-in_default-win_value_at g c =
           (tried-won c.args.chain.now c.requires.at tried decided.0 won);
       tried = sym decided.1;
       spent = spent-later tried.spent tried.made.grown (steps_add_up.one won);
+      looked = omega (arith, c.loop-number.invariant.looked, won.steps);
       serves = c.before_exchange.ensures.serves;
     }
 
@@ -114,6 +120,7 @@ returns-then-tries-eq0 g c =
       tried = last-tried c.args.chain.now c.requires.at tried c.without_tries.result
           c.if-tries-eq0.true c.without_tries.ensures;
       spent = tried.spent;
+      looked = omega (arith, c.loop-number.invariant.looked, c.in-Err.ensures.lost.1.steps);
       serves = c.before_exchange.ensures.serves;
     }
 
@@ -124,6 +131,7 @@ loop-number-preserved-else-tries-eq0 g c =
       tried = tried-as (sym shows)
           (lost g (goal.at.loop-number-preserved-else-tries-eq0 g c).In-Some-shows);
       some = omega (arith, c.if-tries-eq0.false);
+      looked = omega (arith, c.loop-number.invariant.looked, c.in-Err.ensures.lost.1.steps);
       serves = c.after_loss.ensures.serves;
     }
 
@@ -145,6 +153,7 @@ loop-number-preserved g c =
           (tried-primed c.args.chain.now c.requires.at tried c.in-Err.found acts other.1 other.2
           none);
       some = c.loop-number.invariant.some;
+      looked = omega (arith, c.loop-number.invariant.looked, c.in-Err.ensures.lost.1.steps);
       serves = c.before_exchange.ensures.serves;
     }
 
@@ -158,5 +167,6 @@ returns g c =
       made = made-within _ _ (omega arith) (tried-as none tried).made;
       tried = (shown-none _ none, tried.held, c.loop-number.invariant.some);
       spent = tried.spent;
+      looked = c.loop-number.invariant.looked;
       serves = c.loop-number.invariant.serves;
     }
