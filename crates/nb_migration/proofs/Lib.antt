@@ -3,6 +3,7 @@ mod CallEvents
 mod IdleCalls
 mod OpenWrites
 mod Replied
+mod RunLogs
 mod ShownStates
 mod Stepped
 mod Told
