@@ -13,7 +13,7 @@ use Rattle.nb_core.specs.declared.calls.Reply.{Reply}
 use Rattle.nb_core.specs.declared.calls.Want.{Want}
 use Rattle.nb_core.specs.declared.calls.Want.TheVariants.{Absent, Equal}
 use Rattle.nb_map.specs.FirstPut.{HasHad}
-use Rattle.nb_migration.specs.CoreCalls.{AreUsers, CoreCall, Copies, Closes, Freezes, HasFoundPast, Knows, Looks, Marks, Reads, Writes, acting_event, called_key, entry_by, made_call, open_call, open_want}
+use Rattle.nb_migration.specs.CoreCalls.{AreUsers, CoreCall, Copies, Closes, Freezes, HasFoundPast, Knows, Looks, Marks, Writes, acting_event, called_key, entry_by, made_call, open_call, open_want}
 use Rattle.nb_migration.specs.Numbers.{frozen_of, is_open}
 use Rattle.nb_migration.specs.Shown.{HasHadNumber, HasPast, ShowsState, number_of_state}
 use Rattle.nb_migration.specs.Writes.{IsOpenWrite}
@@ -242,13 +242,13 @@ module _ (h : List Event) (log : List Entry) (t c : ℕ) (key : ℕ) (s : State)
         record { number = number; past = leb-true n USER_MAX users }
 
     pub write-acts :
-        (last : Bool) (want : Want) (change : Change)
+        (answers : Bool) (want : Want) (change : Change)
         → IsOpenWrite (Write key (open_want want change) change)
         → is_reached c (row_of h key) ≡ true → (s ≡ Full → ⊥)
-        → leaves_alone (made_call (Writes last (Write key want change))) (number_of_state s) ≡ false
-        → Acts (Writes last (Write key want change))
-    write-acts last want change opens knows room acts =
-        let call = Writes last (Write key want change) in
+        → leaves_alone (made_call (Writes answers (Write key want change))) (number_of_state s) ≡ false
+        → Acts (Writes answers (Write key want change))
+    write-acts answers want change opens knows room acts =
+        let call = Writes answers (Write key want change) in
         let write = Write key want change in
         let entry = entry_by seat call (reply call) in
         let found = number_of_state s in
@@ -282,14 +282,12 @@ pub call-acts :
     → leaves_alone (made_call call) (number_of_state s) ≡ false
     → Knows h (acting_event t c call (reply_at (made_call call) (number_of_state s)))
     → Acts h log t c (called_key call) s at shows there seat call
-call-acts h log t c seat (Looks key) s at shows there users found room acts knows =
+call-acts h log t c seat (Looks answers key) s at shows there users found room acts knows =
     absurd (both_ways true acts refl)
-call-acts h log t c seat (Reads last key) s at shows there users found room acts knows =
-    absurd (both_ways true acts refl)
-call-acts h log t c seat (Writes last (Get key)) s at shows there users found room acts knows =
+call-acts h log t c seat (Writes answers (Get key)) s at shows there users found room acts knows =
     absurd users
-call-acts h log t c seat (Writes last (Write key want change)) s at shows there users found room acts knows =
-    write-acts h log t c key s at shows there seat last want change users knows room acts
+call-acts h log t c seat (Writes answers (Write key want change)) s at shows there users found room acts knows =
+    write-acts h log t c key s at shows there seat answers want change users knows room acts
 call-acts h log t c seat (Freezes key n) s at shows there users found room acts knows =
     freeze-acts h log t c key s at shows there seat n users acts
 call-acts h log t c seat (Marks to key n) s at shows there users found room acts knows =

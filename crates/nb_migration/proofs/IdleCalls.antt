@@ -13,7 +13,7 @@ use Rattle.nb_core.specs.declared.calls.Change.TheVariants.{Add, Put, Remove}
 use Rattle.nb_core.specs.declared.calls.Reply.{Reply}
 use Rattle.nb_core.specs.declared.calls.Want.{Want}
 use Rattle.nb_core.specs.declared.calls.Want.TheVariants.{Absent, Any, Below, Equal, Present}
-use Rattle.nb_migration.specs.CoreCalls.{AreUsers, CoreCall, Copies, Closes, Freezes, Knows, Looks, Marks, Reads, Writes, called_key, idle_event, is_decided, made_call, open_call, open_want, read_event}
+use Rattle.nb_migration.specs.CoreCalls.{AreUsers, CoreCall, Copies, Closes, Freezes, Knows, Looks, Marks, Writes, called_key, idle_event, is_answer, made_call, open_call, open_want, read_event}
 use Rattle.nb_migration.specs.Numbers.{frozen_of, is_open, seen_of}
 use Rattle.nb_migration.specs.Shown.{HasPast, number_of_state}
 use Rattle.nb_migration.specs.Writes.{answer_at, answer_at_none, answer_to, kept_by}
@@ -72,9 +72,8 @@ read-idle :
     → MayRead h c (state_in c (row_of h (key_of_call a))) a r → IsIdle h (event.Read t c a r)
 read-idle h t c a r may = (may, λ key row. refl)
 
-abbrev ReadsIdle : List Event → (thread core : ℕ) → (last : Bool) → (key : ℕ) → Seen → Type 0
-ReadsIdle h t c last key shown =
-    Knows h (read_event t c last key shown) → IsIdle h (read_event t c last key shown)
+abbrev ReadsIdle : List Event → (thread core key : ℕ) → Seen → Type 0
+ReadsIdle h t c key shown = Knows h (read_event t c key shown) → IsIdle h (read_event t c key shown)
 
 -- a get that finds a number
 get-number :
@@ -94,11 +93,9 @@ get-number h t c key n s at number unmarked knows =
 
 -- one that finds none, and no link
 get-none :
-    (h : List Event) (t c key : ℕ) (last : Bool) (s : State) → state_in c (row_of h key) ≡ s
-    → number_in_state s ≡ None → ((had : Bool) → s ≢ Closed had)
-    → ReadsIdle h t c last key seen.Absent
-get-none h t c key false s at number unmarked knows = look-idle h t c key
-get-none h t c key true s at number unmarked knows =
+    (h : List Event) (t c key : ℕ) (s : State) → state_in c (row_of h key) ≡ s
+    → number_in_state s ≡ None → ((had : Bool) → s ≢ Closed had) → ReadsIdle h t c key seen.Absent
+get-none h t c key s at number unmarked knows =
     read-idle h t c (Get key) (reply_at (Get key) None)
     (subst (λ s. MayRead h c s (Get key) (reply_at (Get key) None)) (sym at) (record {
       reached = knows.0;
@@ -109,22 +106,19 @@ get-none h t c key true s at number unmarked knows =
     }))
 
 get-idle :
-    (h : List Event) (t c : ℕ) (last : Bool) (key : ℕ) (s : State) (log : List Entry)
+    (h : List Event) (t c key : ℕ) (s : State) (log : List Entry)
     → state_in c (row_of h key) ≡ s → HasPast s log key
-    → ReadsIdle h t c last key (seen_of (number_of_state s))
-get-idle h t c last key Never log at past =
-    get-none h t c key last Never at refl (λ had e. cc)
-get-idle h t c last key (Number n) log at past =
-    subst (ReadsIdle h t c last key) (sym (seen-open n past))
+    → ReadsIdle h t c key (seen_of (number_of_state s))
+get-idle h t c key Never log at past = get-none h t c key Never at refl (λ had e. cc)
+get-idle h t c key (Number n) log at past =
+    subst (ReadsIdle h t c key) (sym (seen-open n past))
     (λ knows. get-number h t c key n (Number n) at refl (λ had e. cc) knows)
-get-idle h t c last key Gone log at past =
-    get-none h t c key last Gone at refl (λ had e. cc)
-get-idle h t c last key (Frozen n) log at past =
-    subst (ReadsIdle h t c last key) (sym (seen-frozen n past))
+get-idle h t c key Gone log at past = get-none h t c key Gone at refl (λ had e. cc)
+get-idle h t c key (Frozen n) log at past =
+    subst (ReadsIdle h t c key) (sym (seen-frozen n past))
     (λ knows. get-number h t c key n (Frozen n) at refl (λ had e. cc) knows)
-get-idle h t c last key (Closed had) log at past = λ knows. look-idle h t c key
-get-idle h t c last key Full log at past =
-    get-none h t c key last Full at refl (λ had e. cc)
+get-idle h t c key (Closed had) log at past = λ knows. look-idle h t c key
+get-idle h t c key Full log at past = get-none h t c key Full at refl (λ had e. cc)
 
 -- ---- a user's write
 
@@ -171,7 +165,7 @@ open-fails Present change n plain users fails = fails
 open-fails (Equal m) change n plain users fails = fails
 open-fails (Below m) change n plain users fails = fails
 
-module _ (h : List Event) (t c : ℕ) (last : Bool) (k : ℕ) (want : Want) (change : Change) where
+module _ (h : List Event) (t c k : ℕ) (want : Want) (change : Change) where
   abbrev write : Call
   write = Write k want change
 
@@ -181,7 +175,7 @@ module _ (h : List Event) (t c : ℕ) (last : Bool) (k : ℕ) (want : Want) (cha
   -- the event of the write, by its answer
   abbrev pub write_event : Reply → Result Written CoreFault → Event
   write_event reply answer =
-      cond (is_decided last answer) (event.Read t c write reply) (event.Look t c k)
+      cond (is_answer answer) (event.Read t c write reply) (event.Look t c k)
 
   abbrev pub WritesIdle : Reply → Result Written CoreFault → Type 0
   WritesIdle reply answer = Knows h (write_event reply answer) → IsIdle h (write_event reply answer)
@@ -251,10 +245,8 @@ module _ (h : List Event) (t c : ℕ) (last : Bool) (k : ℕ) (want : Want) (cha
       (s : State) → state_in c (row_of h k) ≡ s → number_in_state s ≡ None
       → ((had : Bool) → s ≢ Closed had) → leaves_alone write None ≡ true
       → WritesIdle (reply_at made None) (Ok written.Absent)
-  none-read s at number unmarked alone =
-      cond_both last (event.Read t c write (reply_at made None)) (event.Look t c k)
-      (λ e. Knows h e → IsIdle h e)
-      (λ is knows. read-idle h t c write (reply_at made None)
+  none-read s at number unmarked alone knows =
+      read-idle h t c write (reply_at made None)
       (subst (λ s. MayRead h c s write (reply_at made None)) (sym at) (record {
         reached = knows.0;
         unmarked = unmarked;
@@ -263,8 +255,7 @@ module _ (h : List Event) (t c : ℕ) (last : Bool) (k : ℕ) (want : Want) (cha
         answers =
             ap (λ (b : Bool). record { before = None; matched = b }) (open-none want change)
             ∙ ap (reply_at write) (sym number);
-      })))
-      (λ other knows. look-idle h t c k)
+      }))
 
   -- one that finds what is no number of the user's
   pub moved-idle :
@@ -275,15 +266,15 @@ module _ (h : List Event) (t c : ℕ) (last : Bool) (k : ℕ) (want : Want) (cha
 
 -- a write that would put a number where there is none, and didn't
 puts-none :
-    (h : List Event) (t c : ℕ) (last : Bool) (k : ℕ) (want : Want) (change : Change) (s : State)
+    (h : List Event) (t c k : ℕ) (want : Want) (change : Change) (s : State)
     → state_in c (row_of h k) ≡ s → number_in_state s ≡ None → ((had : Bool) → s ≢ Closed had)
     → leaves_alone (open_call (Write k want change)) None ≡ true
     → same_number (changed change None) None ≡ false
     → answer_at_none (open_call (Write k want change))
     ≡ cond (holds_of (open_want want change) None) written.Came written.Absent
-    → WritesIdle h t c last k want change (reply_at (open_call (Write k want change)) None)
+    → WritesIdle h t c k want change (reply_at (open_call (Write k want change)) None)
     (Ok (answer_at_none (open_call (Write k want change))))
-puts-none h t c last k want change s at number unmarked alone puts is =
+puts-none h t c k want change s at number unmarked alone puts is =
     let b = holds_of (open_want want change) None in
     let same = same_number (changed change None) None in
     let fails : b ≡ false = elim (or_cases (not b) same alone) [
@@ -291,44 +282,44 @@ puts-none h t c last k want change s at number unmarked alone puts is =
       | inr e ↦ absurd (both_ways same puts e)
     ] in
     let absent = is ∙ cond-false b written.Came written.Absent fails in
-    subst (λ a. WritesIdle h t c last k want change (reply_at (open_call (Write k want change)) None)
+    subst (λ a. WritesIdle h t c k want change (reply_at (open_call (Write k want change)) None)
     (Ok a)) (sym absent)
-    (none-read h t c last k want change s at number unmarked
-    (alone-fails h t c last k want change None (sym (open-none want change) ∙ fails)))
+    (none-read h t c k want change s at number unmarked
+    (alone-fails h t c k want change None (sym (open-none want change) ∙ fails)))
 
 none-idle :
-    (h : List Event) (t c : ℕ) (last : Bool) (k : ℕ) (want : Want) (change : Change) (s : State)
+    (h : List Event) (t c k : ℕ) (want : Want) (change : Change) (s : State)
     → state_in c (row_of h k) ≡ s → number_in_state s ≡ None → ((had : Bool) → s ≢ Closed had)
     → leaves_alone (open_call (Write k want change)) None ≡ true
-    → WritesIdle h t c last k want change (reply_at (open_call (Write k want change)) None)
+    → WritesIdle h t c k want change (reply_at (open_call (Write k want change)) None)
     (answer_to (open_call (Write k want change)) None)
-none-idle h t c last k want Remove s at number unmarked alone =
-    none-read h t c last k want Remove s at number unmarked
+none-idle h t c k want Remove s at number unmarked alone =
+    none-read h t c k want Remove s at number unmarked
     (or_right (not (holds_of want None)) true refl)
-none-idle h t c last k want (Put m) s at number unmarked alone =
-    puts-none h t c last k want (Put m) s at number unmarked alone refl refl
-none-idle h t c last k want (Add d) s at number unmarked alone =
-    puts-none h t c last k want (Add d) s at number unmarked alone refl refl
+none-idle h t c k want (Put m) s at number unmarked alone =
+    puts-none h t c k want (Put m) s at number unmarked alone refl refl
+none-idle h t c k want (Add d) s at number unmarked alone =
+    puts-none h t c k want (Add d) s at number unmarked alone refl refl
 
 write-idle :
-    (h : List Event) (t c : ℕ) (last : Bool) (k : ℕ) (want : Want) (change : Change) (s : State)
+    (h : List Event) (t c k : ℕ) (want : Want) (change : Change) (s : State)
     (log : List Entry) → state_in c (row_of h k) ≡ s → HasPast s log k
     → leaves_alone (open_call (Write k want change)) (number_of_state s) ≡ true
-    → WritesIdle h t c last k want change
+    → WritesIdle h t c k want change
     (reply_at (open_call (Write k want change)) (number_of_state s))
     (answer_to (open_call (Write k want change)) (number_of_state s))
-write-idle h t c last k want change Never log at past alone =
-    none-idle h t c last k want change Never at refl (λ had e. cc) alone
-write-idle h t c last k want change (Number n) log at past alone =
-    number-idle h t c last k want change n past at alone
-write-idle h t c last k want change Gone log at past alone =
-    none-idle h t c last k want change Gone at refl (λ had e. cc) alone
-write-idle h t c last k want change (Frozen n) log at past alone =
-    moved-idle h t c last k want change (frozen_of n) (frozen-moved n)
-write-idle h t c last k want change (Closed had) log at past alone =
-    moved-idle h t c last k want change CLOSED refl
-write-idle h t c last k want change Full log at past alone =
-    none-idle h t c last k want change Full at refl (λ had e. cc) alone
+write-idle h t c k want change Never log at past alone =
+    none-idle h t c k want change Never at refl (λ had e. cc) alone
+write-idle h t c k want change (Number n) log at past alone =
+    number-idle h t c k want change n past at alone
+write-idle h t c k want change Gone log at past alone =
+    none-idle h t c k want change Gone at refl (λ had e. cc) alone
+write-idle h t c k want change (Frozen n) log at past alone =
+    moved-idle h t c k want change (frozen_of n) (frozen-moved n)
+write-idle h t c k want change (Closed had) log at past alone =
+    moved-idle h t c k want change CLOSED refl
+write-idle h t c k want change Full log at past alone =
+    none-idle h t c k want change Full at refl (λ had e. cc) alone
 
 -- ---- all of them
 
@@ -339,12 +330,14 @@ pub call-idle :
     → AreUsers call → leaves_alone (made_call call) (number_of_state s) ≡ true
     → Knows h (idle_event t c call (reply_at (made_call call) (number_of_state s)))
     → IsIdle h (idle_event t c call (reply_at (made_call call) (number_of_state s)))
-call-idle h t c (Looks key) s log at past users alone knows = look-idle h t c key
-call-idle h t c (Reads last key) s log at past users alone knows =
-    get-idle h t c last key s log at past knows
-call-idle h t c (Writes last (Get key)) s log at past users alone knows = absurd users
-call-idle h t c (Writes last (Write key want change)) s log at past users alone knows =
-    write-idle h t c last key want change s log at past alone knows
+call-idle h t c (Looks true key) s log at past users alone knows =
+    get-idle h t c key s log at past knows
+call-idle h t c (Looks false key) s log at past users alone knows = look-idle h t c key
+call-idle h t c (Writes answers (Get key)) s log at past users alone knows = absurd users
+call-idle h t c (Writes true (Write key want change)) s log at past users alone knows =
+    write-idle h t c key want change s log at past alone knows
+call-idle h t c (Writes false (Write key want change)) s log at past users alone knows =
+    look-idle h t c key
 call-idle h t c (Freezes key n) s log at past users alone knows = look-idle h t c key
 call-idle h t c (Marks to key n) s log at past users alone knows = look-idle h t c key
 call-idle h t c (Closes key had) s log at past users alone knows = look-idle h t c key

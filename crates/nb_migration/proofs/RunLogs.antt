@@ -9,7 +9,7 @@ use Rattle.nb_core.specs.Log.{Entry, IsReplayed, map_of_log, reply_of}
 use Rattle.nb_core.specs.declared.calls.Call.TheVariants.{Get, Write}
 use Rattle.nb_core.specs.declared.calls.Reply.{Reply}
 use Rattle.nb_map.specs.FirstPut.{HasHad}
-use Rattle.nb_migration.specs.CoreCalls.{CoreCall, Copies, Closes, Freezes, IsMade, Looks, Marks, Reads, Writes, acting_event, called_key, entry_by, event_of, idle_event, is_decided, made_call, open_call, read_event}
+use Rattle.nb_migration.specs.CoreCalls.{CoreCall, Copies, Closes, Freezes, IsMade, Looks, Marks, Writes, acting_event, called_key, entry_by, event_of, idle_event, is_answer, made_call, open_call, read_event}
 use Rattle.nb_migration.specs.Numbers.{seen_of}
 use Rattle.nb_migration.specs.Runs.{Calls, CoresHaveLogs, FindsFull, HaveLogs, IsMove, IsRun, Links, Move, Seals, Turn, core_log, event_by, history_of, log_with}
 use Rattle.nb_migration.specs.Shown.{ShowsState}
@@ -116,24 +116,23 @@ Touches k d e =
     (key : ℕ) (row : List KeyPlace) → (row_after e key row ≡ row)
     ⊎ ((s : State) × (row_after e key row ≡ becomes k key d s row))
 
-read-touches :
-    (t d k q : ℕ) (last : Bool) (shown : Seen) → Touches k d (read_event t d last q shown)
-read-touches t d k q last (seen.Open n) key row = inl refl
-read-touches t d k q last (seen.Frozen n) key row = inl refl
-read-touches t d k q last seen.Closed key row = inl refl
-read-touches t d k q true seen.Absent key row = inl refl
-read-touches t d k q false seen.Absent key row = inl refl
+read-touches : (t d k q : ℕ) (shown : Seen) → Touches k d (read_event t d q shown)
+read-touches t d k q (seen.Open n) key row = inl refl
+read-touches t d k q (seen.Frozen n) key row = inl refl
+read-touches t d k q seen.Closed key row = inl refl
+read-touches t d k q seen.Absent key row = inl refl
 
 idle-touches :
     (t d k : ℕ) (call : CoreCall) (reply : Reply) → Touches k d (idle_event t d call reply)
-idle-touches t d k (Looks key) reply q row = inl refl
-idle-touches t d k (Reads last key) reply q row =
-    read-touches t d k key last (seen_of reply.before) q row
-idle-touches t d k (Writes last write) reply q row =
-    cond_both (is_decided last (answer_to (open_call write) reply.before))
+idle-touches t d k (Looks true key) reply q row =
+    read-touches t d k key (seen_of reply.before) q row
+idle-touches t d k (Looks false key) reply q row = inl refl
+idle-touches t d k (Writes true write) reply q row =
+    cond_both (is_answer (answer_to (open_call write) reply.before))
     (event.Read t d write reply) (event.Look t d (key_of_call write))
     (λ e. (row_after e q row ≡ row) ⊎ ((s : State) × (row_after e q row ≡ becomes k q d s row)))
     (λ read. inl refl) (λ look. inl refl)
+idle-touches t d k (Writes false write) reply q row = inl refl
 idle-touches t d k (Freezes key n) reply q row = inl refl
 idle-touches t d k (Marks to key n) reply q row = inl refl
 idle-touches t d k (Closes key had) reply q row = inl refl
@@ -142,10 +141,9 @@ idle-touches t d k (Copies from key n) reply q row = inl refl
 acting-touches :
     (t d : ℕ) (call : CoreCall) (reply : Reply)
     → Touches (called_key call) d (acting_event t d call reply)
-acting-touches t d (Looks key) reply q row = inl refl
-acting-touches t d (Reads last key) reply q row = inl refl
-acting-touches t d (Writes last (Get key)) reply q row = inr (left_by (Get key) reply.before, refl)
-acting-touches t d (Writes last (Write key want change)) reply q row =
+acting-touches t d (Looks answers key) reply q row = inl refl
+acting-touches t d (Writes answers (Get key)) reply q row = inr (left_by (Get key) reply.before, refl)
+acting-touches t d (Writes answers (Write key want change)) reply q row =
     inr (left_by (Write key want change) reply.before, refl)
 acting-touches t d (Freezes key n) reply q row = inr (Frozen n, refl)
 acting-touches t d (Marks to key n) reply q row = inr (Closed true, refl)

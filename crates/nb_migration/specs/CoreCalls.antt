@@ -1,5 +1,5 @@
 -- The calls that the protocol makes in a core, and which event of moving keys each of them is.
-use Rattle.std.specs.Prelude.{◌≡◌, ℕ, ◌≤◌, ◌-◌, Bool, true, false, if◌then◌else◌, List, ◌∷◌, Option, Some, None, is_some, Result, Ok, Err}
+use Rattle.std.specs.Prelude.{◌≡◌, ℕ, ◌≤◌, ◌-◌, Bool, true, false, if◌then◌else◌, List, ◌∷◌, Option, Some, None, Result, Ok, Err}
 use Rattle.nb_core.specs.Calls.{leaves_alone}
 use Rattle.nb_core.specs.History.{key_of_call}
 use Rattle.nb_core.specs.Log.{Entry, map_of_log, reply_at, reply_of}
@@ -20,8 +20,8 @@ use Rattle.nb_migration.specs.declared.numbers.Seen.TheVariants as seen
 use Rattle.nb_migration.specs.declared.numbers.TheConstants.{USER_END, USER_MAX}
 use Rattle.nb_migration.specs.declared.writes.CoreFault.{CoreFault}
 use Rattle.nb_migration.specs.declared.writes.Written.{Written}
-use Rattle.nb_migration.specs.declared.writes.Written.TheVariants.{Absent, Moved}
-use Rattle.nb_moving.specs.Moving.{HasSeenFrozen, MayFollow, had_number, has_core, is_reached, link_of, row_of, state_in}
+use Rattle.nb_migration.specs.declared.writes.Written.TheVariants.{Moved}
+use Rattle.nb_moving.specs.Moving.{HasSeenFrozen, had_number, has_core, is_reached, link_of, row_of, state_in}
 use Rattle.nb_moving.specs.declared.events.Event.{Event}
 use Rattle.nb_moving.specs.declared.events.Event.TheVariants as event
 use Rattle.nb_moving.specs.declared.events.State.TheVariants.{Full}
@@ -42,13 +42,12 @@ open_call (Write k want change) = Write k (open_want want change) change
 
 -- a call that a thread makes in a core
 pub data CoreCall : Type 0 where
-  -- a look for which no call of a user is decided
-  Looks : (key : ℕ) → CoreCall
-  -- a look, or a write, for a user's call; and whether no link was found after it
-  Reads : (last : Bool) → (key : ℕ) → CoreCall
-  Writes : (last : Bool) → (write : Call) → CoreCall
+  -- a look, and whether a user's get is answered by what it shows
+  Looks : (answers : Bool) → (key : ℕ) → CoreCall
+  -- a user's write, and whether the user is answered by it where it changes nothing
+  Writes : (answers : Bool) → (write : Call) → CoreCall
   Freezes : (key number : ℕ) → CoreCall
-  -- a mark, since the number came to core `to`
+  -- a mark, since the number has come to core `to`, or had come
   Marks : (to key number : ℕ) → CoreCall
   -- a close of a key that has no number, and whether it had one
   Closes : (key : ℕ) → (had : Bool) → CoreCall
@@ -57,9 +56,8 @@ pub data CoreCall : Type 0 where
 
 -- the call of the core's map
 abbrev pub made_call : CoreCall → Call
-made_call (Looks key) = Get key
-made_call (Reads last key) = Get key
-made_call (Writes last write) = open_call write
+made_call (Looks answers key) = Get key
+made_call (Writes answers write) = open_call write
 made_call (Freezes key n) = freeze_of key n
 made_call (Marks to key n) = mark_of key n
 made_call (Closes key had) = close_of key
@@ -74,34 +72,30 @@ entry_by seat call reply = record { seat = seat; call = made_call call; reply = 
 
 -- ---- the events
 
--- the event of a look for a user's get: where it shows the mark, the get goes on; and where it shows
--- no number, unless no link was found after it
-abbrev pub read_event : (thread core : ℕ) → (last : Bool) → (key : ℕ) → Seen → Event
-read_event t c last key (seen.Open n) = event.Read t c (Get key) (reply_at (Get key) (Some n))
-read_event t c last key (seen.Frozen n) = event.Read t c (Get key) (reply_at (Get key) (Some n))
-read_event t c last key seen.Closed = event.Look t c key
-read_event t c last key seen.Absent =
-    if last then event.Read t c (Get key) (reply_at (Get key) None) else event.Look t c key
+-- the event of a look for a user's get, by what it shows: where that is the mark, the get goes on
+abbrev pub read_event : (thread core key : ℕ) → Seen → Event
+read_event t c key (seen.Open n) = event.Read t c (Get key) (reply_at (Get key) (Some n))
+read_event t c key (seen.Frozen n) = event.Read t c (Get key) (reply_at (Get key) (Some n))
+read_event t c key seen.Closed = event.Look t c key
+read_event t c key seen.Absent = event.Read t c (Get key) (reply_at (Get key) None)
 
--- whether the answer of a write that changed nothing is the user's; where there is no number, if no
--- link was found after it
-abbrev pub is_decided : (last : Bool) → Result Written CoreFault → Bool
-is_decided last (Ok Absent) = last
-is_decided last (Ok Moved) = false
-is_decided last (Ok answer) = true
-is_decided last (Err fault) = false
+-- whether the answer of a write in a core may be the user's
+abbrev pub is_answer : Result Written CoreFault → Bool
+is_answer (Ok Moved) = false
+is_answer (Ok answer) = true
+is_answer (Err fault) = false
 
 -- the event of a call that changed nothing
 abbrev pub idle_event : (thread core : ℕ) → CoreCall → Reply → Event
-idle_event t c (Reads last key) reply = read_event t c last key (seen_of reply.before)
-idle_event t c (Writes last write) reply =
-    if is_decided last (answer_to (open_call write) reply.before) then event.Read t c write reply
+idle_event t c (Looks true key) reply = read_event t c key (seen_of reply.before)
+idle_event t c (Writes true write) reply =
+    if is_answer (answer_to (open_call write) reply.before) then event.Read t c write reply
     else event.Look t c (key_of_call write)
 idle_event t c call reply = event.Look t c (called_key call)
 
 -- the event of one that changed something
 abbrev pub acting_event : (thread core : ℕ) → CoreCall → Reply → Event
-acting_event t c (Writes last write) reply = event.Write t c write reply
+acting_event t c (Writes answers write) reply = event.Write t c write reply
 acting_event t c (Freezes key n) reply = event.Freeze t c key n
 acting_event t c (Marks to key n) reply = event.Mark t c to key n
 acting_event t c (Closes key had) reply = event.Close t c key had
@@ -118,7 +112,7 @@ event_of t c call reply =
 
 -- its numbers are the user's
 abbrev pub AreUsers : CoreCall → Type 0
-AreUsers (Writes last write) = IsOpenWrite (open_call write)
+AreUsers (Writes answers write) = IsOpenWrite (open_call write)
 AreUsers (Freezes key n) = n ≤ USER_MAX
 AreUsers (Marks to key n) = n ≤ USER_MAX
 AreUsers (Copies from key n) = n ≤ USER_MAX
@@ -132,19 +126,16 @@ HasFoundPast (Closes key true) log = HasHad log key
 HasFoundPast (Closes key false) log = HasHad log key → ⊥
 HasFoundPast call log = Unit {0}
 
--- what the author of an event knows of other cores, and of links: of `MayFollow` what no log of the
--- core shows
+-- What the author of an event knows of other cores, and of links: what `MayFollow` asks beside what
+-- the key is in the event's own core.
 abbrev pub Knows : List Event → Event → Type 0
-Knows h (event.Look t c k) = Unit {0}
 Knows h (event.Read t c a r) = (is_reached c (row_of h (key_of_call a)) ≡ true)
     × (r.before ≡ None → link_of h c ≡ None)
 Knows h (event.Write t c a r) = is_reached c (row_of h (key_of_call a)) ≡ true
-Knows h (event.Freeze t c k n) = Unit {0}
 Knows h (event.Copy t i c k n) = HasSeenFrozen h k i c n
 Knows h (event.Mark t c j k n) = HasSeenFrozen h k c j n
     × (had_number (state_in j (row_of h k)) ≡ true)
-Knows h (event.Close t c k had) = Unit {0}
-Knows h e = MayFollow h e
+Knows h _ = Unit {0}
 
 -- The call is made after this history, in this core whose log was this, with this reply.
 pub record IsMade (h : List Event) (log : List Entry) (thread core : ℕ) (call : CoreCall)
