@@ -44,10 +44,10 @@ frozen-moved n = not-le (frozen_of n) USER_MAX (λ less. omega (arith, less))
 abbrev past_user : ℕ → Seen
 past_user n = cond (nat_le FROZEN n && nat_lt n CLOSED) (seen.Frozen (n - FROZEN)) seen.Closed
 
-seen-open : (n : ℕ) → n ≤ USER_MAX → seen_of (Some n) ≡ seen.Open n
+pub seen-open : (n : ℕ) → n ≤ USER_MAX → seen_of (Some n) ≡ seen.Open n
 seen-open n users = ap (λ b. cond b (seen.Open n) (past_user n)) (le-leb n USER_MAX users)
 
-seen-frozen : (n : ℕ) → n ≤ USER_MAX → seen_of (Some (frozen_of n)) ≡ seen.Frozen n
+pub seen-frozen : (n : ℕ) → n ≤ USER_MAX → seen_of (Some (frozen_of n)) ≡ seen.Frozen n
 seen-frozen n users =
     let m = frozen_of n in
     let past : nat_le m USER_MAX ≡ false = not-le m USER_MAX (λ less. omega (arith, less)) in

@@ -1,10 +1,12 @@
 mod ActingCalls
 mod CallEvents
 mod IdleCalls
+mod MadeCalls
 mod OpenWrites
 mod Replied
 mod RunLogs
 mod ShownStates
 mod Stepped
 mod Told
+mod ToldStates
 pub mod Theorems

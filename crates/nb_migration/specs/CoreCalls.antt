@@ -10,8 +10,8 @@ use Rattle.nb_core.specs.declared.calls.Change.TheVariants.{Add}
 use Rattle.nb_core.specs.declared.calls.Reply.{Reply}
 use Rattle.nb_core.specs.declared.calls.Want.{Want}
 use Rattle.nb_core.specs.declared.calls.Want.TheVariants.{Any, Below}
-use Rattle.nb_map.specs.FirstPut.{HasHad}
-use Rattle.nb_map.specs.NamedCalls.{put_if_absent_of}
+use Rattle.nb_map.specs.FirstPut.{HasHad, first_entry}
+use Rattle.nb_map.specs.NamedCalls.{add_below_of, add_of, exchange_of, put_below_of, put_if_absent_of, put_of, remove_below_of, remove_of}
 use Rattle.nb_migration.specs.Numbers.{seen_of}
 use Rattle.nb_migration.specs.Settling.{close_of, freeze_of, mark_of}
 use Rattle.nb_migration.specs.Writes.{IsOpenWrite, answer_to}
@@ -148,3 +148,18 @@ pub record IsMade (h : List Event) (log : List Entry) (thread core : ℕ) (call 
   pub full : state_in core (row_of h (called_key call)) ≡ Full
       → leaves_alone (made_call call) reply.before ≡ true
   pub knows : Knows h (event_of thread core call reply)
+
+-- ---- a law
+
+-- the calls that the functions of this crate promise are those of the protocol
+pub record AreMadeSo (key : ℕ) : Type 0 where
+  pub put : (n : ℕ) → open_call (put_of key n) ≡ put_below_of key n USER_END
+  pub add : (n : ℕ) → open_call (add_of key n) ≡ add_below_of key n (USER_END - n)
+  pub remove : open_call (remove_of key) ≡ remove_below_of key USER_END
+  pub exchange : (old new : Option ℕ) → open_call (exchange_of key old new) ≡ exchange_of key old new
+  pub copy : (seat from n : ℕ) → first_entry seat key n
+      ≡ entry_by seat (Copies from key n) (reply_at (made_call (Copies from key n)) None)
+
+-- The user's calls are made so, by the names that they have here.
+abbrev pub CallsAreMadeSo : Type 0
+CallsAreMadeSo = (key : ℕ) → AreMadeSo key

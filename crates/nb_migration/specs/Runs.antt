@@ -4,7 +4,8 @@ use Rattle.nb_core.specs.Log.{Entry, IsReplayed}
 use Rattle.nb_core.specs.declared.calls.Reply.{Reply}
 use Rattle.nb_migration.specs.CoreCalls.{CoreCall, IsMade, entry_by, event_of, called_key}
 use Rattle.nb_migration.specs.Shown.{ShowsState}
-use Rattle.nb_moving.specs.Moving.{IsLegal, MayFollow, has_core, row_of, state_in}
+use Rattle.nb_moving.specs.Laws.{AreOneMap}
+use Rattle.nb_moving.specs.Moving.{IsLegal, MayFollow, SealsHold, has_core, row_of, state_in}
 use Rattle.nb_moving.specs.declared.events.Event.{Event}
 use Rattle.nb_moving.specs.declared.events.Event.TheVariants.{Begin, Seal, Fill}
 use Rattle.nb_moving.specs.declared.events.Link.{Link}
@@ -79,3 +80,8 @@ pub record HaveLogs (run : List Turn) : Type 0 where
 -- The logs of all cores and the history go together.
 abbrev pub CoresHaveLogs : Type 0
 CoresHaveLogs = (run : List Turn) → IsRun run → HaveLogs run
+
+-- So the users' calls that were made in all cores are one map, by the law of moving.
+abbrev pub RunsAreOneMap : Type 0
+RunsAreOneMap =
+    (run : List Turn) → IsRun run → SealsHold (history_of run) → AreOneMap (history_of run)

@@ -3,8 +3,10 @@ use Rattle.std.specs.Prelude.{◌≡◌, ◌≢◌, ℕ, ◌≤◌, Bool, true, 
 use Rattle.std.specs.FinMap.{get}
 use Rattle.nb_core.specs.Log.{Entry, IsBeginning, map_of_log}
 use Rattle.nb_map.specs.FirstPut.{HasHad}
-use Rattle.nb_migration.specs.Numbers.{frozen_of}
+use Rattle.nb_migration.specs.Numbers.{frozen_of, seen_of}
+use Rattle.nb_migration.specs.declared.numbers.Seen.TheVariants as seen
 use Rattle.nb_migration.specs.declared.numbers.TheConstants.{CLOSED, USER_MAX}
+use Rattle.nb_moving.specs.Moving.{had_number}
 use Rattle.nb_moving.specs.declared.events.State.{State}
 use Rattle.nb_moving.specs.declared.events.State.TheVariants.{Never, Number, Gone, Frozen, Closed, Full}
 
@@ -38,3 +40,15 @@ HasPast Full log key = HasHad log key → ⊥
 pub record ShowsState (log : List Entry) (key : ℕ) (s : State) : Type 0 where
   pub number : get (map_of_log log) key ≡ number_of_state s
   pub past : HasPast s log key
+
+-- What a look shows of a key, and whether it ever had a number, tells what it is there.
+pub record IsTold (log : List Entry) (key : ℕ) (s : State) : Type 0 where
+  pub frozen : (n : ℕ) → seen_of (get (map_of_log log) key) ≡ seen.Frozen n → s ≡ Frozen n
+  pub closed : seen_of (get (map_of_log log) key) ≡ seen.Closed → (had : Bool) × (s ≡ Closed had)
+  pub had : HasHad log key → seen_of (get (map_of_log log) key) ≢ seen.Closed
+      → had_number s ≡ true
+
+-- So the author of an event learns what he has to know of other cores.
+abbrev pub StatesAreTold : Type 0
+StatesAreTold =
+    (log : List Entry) (key : ℕ) (s : State) → ShowsState log key s → IsTold log key s
