@@ -1,11 +1,10 @@
 -- Calls of the protocol that change something, as events.
-use Rattle.std.proofs.Common.{◌≡◌, ◌≢◌, ◌∙◌, ℕ, ◌≤◌, ◌==◌, ◌||◌, Bool, true, false, not, cond, List, [], ◌∷◌, Option, Some, None, ap, sym, subst, refl, arith}
+use Rattle.std.proofs.Common.{◌≡◌, ◌∙◌, ℕ, ◌≤◌, ◌==◌, ◌||◌, Bool, true, false, not, cond, List, [], ◌∷◌, Option, Some, None, ap, sym, subst, refl, arith}
 use Rattle.std.proofs.lemmas.Bool.{both_ways, cond-false, cond-true, eq-eqb, eqb-true, leb-true, or_from}
 use Rattle.std.specs.FinMap.{get}
 use Rattle.std.specs.Option.{option_map_or}
 use Rattle.nb_core.specs.Calls.{leaves_alone, same_number}
 use Rattle.nb_core.specs.Log.{Entry, changed, holds_of, map_after, map_of_log, reply_at}
-use Rattle.nb_core.specs.declared.calls.Call.{Call}
 use Rattle.nb_core.specs.declared.calls.Call.TheVariants.{Get, Write}
 use Rattle.nb_core.specs.declared.calls.Change.{Change}
 use Rattle.nb_core.specs.declared.calls.Change.TheVariants.{Put}
@@ -13,13 +12,13 @@ use Rattle.nb_core.specs.declared.calls.Reply.{Reply}
 use Rattle.nb_core.specs.declared.calls.Want.{Want}
 use Rattle.nb_core.specs.declared.calls.Want.TheVariants.{Absent, Equal}
 use Rattle.nb_map.specs.FirstPut.{HasHad}
-use Rattle.nb_migration.specs.CoreCalls.{AreUsers, CoreCall, Copies, Closes, Freezes, HasFoundPast, Knows, Looks, Marks, Writes, acting_event, called_key, entry_by, made_call, open_call, open_want}
+use Rattle.nb_migration.specs.CoreCalls.{AreUsers, CoreCall, Copies, Closes, Freezes, HasFoundPast, KnowsOthers, Looks, Marks, Writes, acting_event, called_key, entry_by, made_call, open_want}
 use Rattle.nb_migration.specs.Numbers.{frozen_of, is_open}
 use Rattle.nb_migration.specs.Shown.{HasHadNumber, HasPast, ShowsState, number_of_state}
 use Rattle.nb_migration.specs.Writes.{IsOpenWrite}
-use Rattle.nb_migration.specs.declared.numbers.TheConstants.{CLOSED, FROZEN, USER_MAX}
+use Rattle.nb_migration.specs.declared.numbers.TheConstants.{CLOSED, USER_MAX}
 use Rattle.nb_migration.proofs.IdleCalls.{frozen-moved, open-holds}
-use Rattle.nb_migration.proofs.ShownStates.{acts-parts, get-acted, never-more, number-before, number-had, number-more, unmarked-more}
+use Rattle.nb_migration.proofs.ShownStates.{acts-parts, get-acted, number-before, number-had, number-more, unmarked-more}
 use Rattle.nb_moving.specs.Moving.{KeyPlace, MayFollow, MayWrite, becomes, change_at, has_core, is_reached, left_by, number_in_state, row_after, row_of, state_in}
 use Rattle.nb_moving.specs.Moving as moving
 use Rattle.nb_moving.specs.declared.events.Event.{Event}
@@ -165,7 +164,7 @@ module _ (h : List Event) (log : List Entry) (t c : ℕ) (key : ℕ) (s : State)
         )
 
     pub mark-acts :
-        (to n : ℕ) → n ≤ USER_MAX → Knows h (event.Mark t c to key n)
+        (to n : ℕ) → n ≤ USER_MAX → KnowsOthers h (event.Mark t c to key n)
         → leaves_alone (made_call (Marks to key n)) (number_of_state s) ≡ false → Acts (Marks to key n)
     mark-acts to n users knows acts =
         let call = Marks to key n in
@@ -196,7 +195,7 @@ module _ (h : List Event) (log : List Entry) (t c : ℕ) (key : ℕ) (s : State)
         )
 
     pub copy-acts :
-        (from n : ℕ) → n ≤ USER_MAX → Knows h (event.Copy t from c key n) → (HasHad log key → ⊥)
+        (from n : ℕ) → n ≤ USER_MAX → KnowsOthers h (event.Copy t from c key n) → (HasHad log key → ⊥)
         → (s ≡ Full → ⊥)
         → leaves_alone (made_call (Copies from key n)) (number_of_state s) ≡ false
         → Acts (Copies from key n)
@@ -280,7 +279,7 @@ pub call-acts :
     (there : has_core c (row_of h (called_key call)) ≡ true)
     → AreUsers call → HasFoundPast call log → (s ≡ Full → ⊥)
     → leaves_alone (made_call call) (number_of_state s) ≡ false
-    → Knows h (acting_event t c call (reply_at (made_call call) (number_of_state s)))
+    → KnowsOthers h (acting_event t c call (reply_at (made_call call) (number_of_state s)))
     → Acts h log t c (called_key call) s at shows there seat call
 call-acts h log t c seat (Looks answers key) s at shows there users found room acts knows =
     absurd (both_ways true acts refl)

@@ -1,5 +1,5 @@
 -- A call of the protocol is an event of moving keys.
-use Rattle.std.proofs.Common.{◌≡◌, ◌∙◌, ℕ, Bool, true, false, cond, List, ◌∷◌, Option, ap, sym, subst, refl, inl, inr}
+use Rattle.std.proofs.Common.{◌≡◌, ◌∙◌, ℕ, true, List, ◌∷◌, Option, ap, sym, subst, refl, inl, inr}
 use Rattle.std.proofs.lemmas.Bool.{both_ways, cases_Bool, cond-false, cond-true}
 use Rattle.std.specs.FinMap.{get}
 use Rattle.nb_core.specs.Calls.{leaves_alone}
@@ -8,7 +8,7 @@ use Rattle.nb_core.specs.Log.{Entry, Numbers, map_of_log, reply_at, reply_of}
 use Rattle.nb_core.specs.declared.calls.Call.{Call}
 use Rattle.nb_core.specs.declared.calls.Call.TheVariants.{Get, Write}
 use Rattle.nb_core.specs.declared.calls.Reply.{Reply}
-use Rattle.nb_migration.specs.CoreCalls.{CoreCall, IsMade, Knows, acting_event, called_key, entry_by, event_of, idle_event, made_call}
+use Rattle.nb_migration.specs.CoreCalls.{CoreCall, IsMade, KnowsOthers, acting_event, called_key, entry_by, event_of, idle_event, made_call}
 use Rattle.nb_migration.specs.Runs.{CallsAreEvents}
 use Rattle.nb_migration.specs.Shown.{ShowsState, number_of_state}
 use Rattle.nb_migration.proofs.ActingCalls.{call-acts}
@@ -55,7 +55,7 @@ module _ (h : List Event) (log : List Entry) (t c seat : ℕ) (call : CoreCall) 
         (acting_event t c call reply)
         (ap (leaves_alone (made_call call)) (before-reply (made_call call) found) ∙ alone) in
         let idle = call-idle h t c call state log refl shows.past made.users alone
-        (subst (Knows h) is made.knows) in
+        (subst (KnowsOthers h) is made.knows) in
         let entry = entry_by seat call reply in
         let shown : ShowsState (entry ∷ log) key state = shows-left entry log state
         (subst (λ o. leaves_alone (made_call call) o ≡ true) (sym shows.number) alone) shows in
@@ -71,7 +71,7 @@ module _ (h : List Event) (log : List Entry) (t c seat : ℕ) (call : CoreCall) 
         (acting_event t c call reply) same in
         subst (Goes reply) (sym is)
         (call-acts h log t c seat call state refl shows made.there made.users (made.found same)
-        (λ full. both_ways _ same (made.full full)) acts (subst (Knows h) is made.knows))
+        (λ full. both_ways _ same (made.full full)) acts (subst (KnowsOthers h) is made.knows))
   ]
 
 pub calls_are_events : CallsAreEvents

@@ -1,6 +1,6 @@
 -- Calls of the protocol that change nothing, as events.
-use Rattle.std.proofs.Common.{◌≡◌, ◌≢◌, ◌∙◌, ℕ, ◌≤◌, ◌-◌, ◌==◌, ◌&&◌, ◌||◌, Bool, true, false, not, cond, List, Option, Some, None, Result, Ok, Err, ap, sym, subst, refl, inl, inr, arith}
-use Rattle.std.proofs.lemmas.Bool.{both_ways, cond-false, cond_both, le-leb, lt-ltb, not-true, or_cases, or_right}
+use Rattle.std.proofs.Common.{◌≡◌, ◌≢◌, ◌∙◌, ℕ, ◌≤◌, ◌-◌, ◌&&◌, ◌||◌, Bool, true, false, not, cond, List, Option, Some, None, Result, Ok, ap, sym, subst, refl, inl, inr, arith}
+use Rattle.std.proofs.lemmas.Bool.{both_ways, cond-false, le-leb, lt-ltb, not-true, or_cases, or_right}
 use Rattle.std.proofs.lemmas.Bool.Decides.{nat_tests}
 use Rattle.std.specs.Prelude.{nat_le, nat_lt}
 use Rattle.nb_core.specs.Calls.{leaves_alone, same_number}
@@ -13,7 +13,7 @@ use Rattle.nb_core.specs.declared.calls.Change.TheVariants.{Add, Put, Remove}
 use Rattle.nb_core.specs.declared.calls.Reply.{Reply}
 use Rattle.nb_core.specs.declared.calls.Want.{Want}
 use Rattle.nb_core.specs.declared.calls.Want.TheVariants.{Absent, Any, Below, Equal, Present}
-use Rattle.nb_migration.specs.CoreCalls.{AreUsers, CoreCall, Copies, Closes, Freezes, Knows, Looks, Marks, Writes, called_key, idle_event, is_answer, made_call, open_call, open_want, read_event}
+use Rattle.nb_migration.specs.CoreCalls.{AreUsers, CoreCall, Copies, Closes, Freezes, KnowsOthers, Looks, Marks, Writes, called_key, idle_event, is_answer, made_call, open_call, open_want, read_event}
 use Rattle.nb_migration.specs.Numbers.{frozen_of, is_open, seen_of}
 use Rattle.nb_migration.specs.Shown.{HasPast, number_of_state}
 use Rattle.nb_migration.specs.Writes.{answer_at, answer_at_none, answer_to, kept_by}
@@ -73,13 +73,13 @@ read-idle :
 read-idle h t c a r may = (may, λ key row. refl)
 
 abbrev ReadsIdle : List Event → (thread core key : ℕ) → Seen → Type 0
-ReadsIdle h t c key shown = Knows h (read_event t c key shown) → IsIdle h (read_event t c key shown)
+ReadsIdle h t c key shown = KnowsOthers h (read_event t c key shown) → IsIdle h (read_event t c key shown)
 
 -- a get that finds a number
 get-number :
     (h : List Event) (t c key n : ℕ) (s : State) → state_in c (row_of h key) ≡ s
     → number_in_state s ≡ Some n → ((had : Bool) → s ≢ Closed had)
-    → Knows h (event.Read t c (Get key) (reply_at (Get key) (Some n)))
+    → KnowsOthers h (event.Read t c (Get key) (reply_at (Get key) (Some n)))
     → IsIdle h (event.Read t c (Get key) (reply_at (Get key) (Some n)))
 get-number h t c key n s at number unmarked knows =
     read-idle h t c (Get key) (reply_at (Get key) (Some n))
@@ -178,7 +178,7 @@ module _ (h : List Event) (t c k : ℕ) (want : Want) (change : Change) where
       cond (is_answer answer) (event.Read t c write reply) (event.Look t c k)
 
   abbrev pub WritesIdle : Reply → Result Written CoreFault → Type 0
-  WritesIdle reply answer = Knows h (write_event reply answer) → IsIdle h (write_event reply answer)
+  WritesIdle reply answer = KnowsOthers h (write_event reply answer) → IsIdle h (write_event reply answer)
 
   -- the same number, or none, is what it would put; or the user's condition doesn't hold
   alone-holds :
@@ -198,7 +198,7 @@ module _ (h : List Event) (t c k : ℕ) (want : Want) (change : Change) where
       (n : ℕ) (b : Bool) → state_in c (row_of h k) ≡ Number n
       → holds_of want (Some n) ≡ b → holds_of (open_want want change) (Some n) ≡ b
       → leaves_alone write (Some n) ≡ true
-      → Knows h (event.Read t c write (reply_at made (Some n)))
+      → KnowsOthers h (event.Read t c write (reply_at made (Some n)))
       → IsIdle h (event.Read t c write (reply_at made (Some n)))
   number-read n b at users holds alone knows =
       read-idle h t c write (reply_at made (Some n))
@@ -328,7 +328,7 @@ pub call-idle :
     (h : List Event) (t c : ℕ) (call : CoreCall) (s : State) (log : List Entry)
     → state_in c (row_of h (called_key call)) ≡ s → HasPast s log (called_key call)
     → AreUsers call → leaves_alone (made_call call) (number_of_state s) ≡ true
-    → Knows h (idle_event t c call (reply_at (made_call call) (number_of_state s)))
+    → KnowsOthers h (idle_event t c call (reply_at (made_call call) (number_of_state s)))
     → IsIdle h (idle_event t c call (reply_at (made_call call) (number_of_state s)))
 call-idle h t c (Looks true key) s log at past users alone knows =
     get-idle h t c key s log at past knows

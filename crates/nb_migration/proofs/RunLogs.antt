@@ -1,6 +1,6 @@
 -- The logs of all cores, and the history of moving keys that they are.
 use Rattle.std.proofs.Common.{◌≡◌, ◌∙◌, ◌⊎◌, ℕ, Bool, true, false, ◌==◌, ◌||◌, cond, List, [], ◌∷◌, ◌++◌, Option, Some, None, ap, sym, subst, refl, inl, inr}
-use Rattle.std.proofs.lemmas.Bool.{both_ways, cases_Bool, cond-false, cond-true, cond_both, eqb-true, eqb-false}
+use Rattle.std.proofs.lemmas.Bool.{both_ways, cases_Bool, cond-false, cond_both, eqb-true}
 use Rattle.std.specs.FinMap.{get, get-empty}
 use Rattle.std.specs.Ordering.{nat_cmp}
 use Rattle.nb_core.specs.Calls.{leaves_alone}
@@ -11,7 +11,7 @@ use Rattle.nb_core.specs.declared.calls.Reply.{Reply}
 use Rattle.nb_map.specs.FirstPut.{HasHad}
 use Rattle.nb_migration.specs.CoreCalls.{CoreCall, Copies, Closes, Freezes, IsMade, Looks, Marks, Writes, acting_event, called_key, entry_by, event_of, idle_event, is_answer, made_call, open_call, read_event}
 use Rattle.nb_migration.specs.Numbers.{seen_of}
-use Rattle.nb_migration.specs.Runs.{Calls, CoresHaveLogs, FindsFull, HaveLogs, IsMove, IsRun, Links, Move, Seals, Turn, core_log, event_by, history_of, log_with}
+use Rattle.nb_migration.specs.Runs.{Calls, CoresHaveLogs, FindsFull, IsMove, AreTurns, Links, Move, Seals, Turn, core_log, event_by, history_of, log_with}
 use Rattle.nb_migration.specs.Shown.{ShowsState}
 use Rattle.nb_migration.specs.Writes.{answer_to}
 use Rattle.nb_migration.specs.declared.numbers.Seen.{Seen}
@@ -224,26 +224,32 @@ module _ (h : List Event) (log : ℕ → List Entry) (t d : ℕ) (before : AreSh
   seal-goes may = unlogged Seals (λ l. refl) may (λ c key. or-seal c d (row_of h key))
 
   full-goes : (k : ℕ) → MayFollow h (event.Fill t d k) → Goes (FindsFull k)
-  full-goes k may = (may, λ c key.
-      let row = row_of h key in
-      subst (λ l. ShowsState l key (state_or c (becomes k key d Full row)))
-      (sym (same_branch (d == c) (log c)))
-      (cond_both (k == key) (change_at d (put Full) row) row (λ r. ShowsState (log c) key (state_or c r))
-      (λ own. or-full c d row
-      (subst (λ q. state_in d (row_of h q) ≡ Never) (eqb-true k key own) may.1)
-      (ShowsState (log c) key) (λ shows. record { number = shows.number; past = shows.past })
-      (before c key))
-      (λ other. before c key)))
+  full-goes k may = (
+    may,
+    λ c key.
+        let row = row_of h key in
+        subst (λ l. ShowsState l key (state_or c (becomes k key d Full row)))
+        (sym (same_branch (d == c) (log c)))
+        (cond_both (k == key) (change_at d (put Full) row) row (λ r. ShowsState (log c) key (state_or c r))
+        (λ own. or-full c d row
+        (subst (λ q. state_in d (row_of h q) ≡ Never) (eqb-true k key own) may.1)
+        (ShowsState (log c) key) (λ shows. record { number = shows.number; past = shows.past })
+        (before c key))
+        (λ other. before c key)),
+  )
 
   call-goes :
       (seat : ℕ) (call : CoreCall) (reply : Reply) → IsMade h (log d) t d call reply
       → Goes (Calls seat call reply)
-  call-goes seat call reply made = (follows.0, λ c key.
-      cond_both (d == c) (entry ∷ log c) (log c) (λ l. ShowsState l key (state_or c (row key)))
-      (λ own. subst (λ c. ShowsState (entry ∷ log c) key (state_or c (row key))) (eqb-true d c own)
-      (here key))
-      (λ other. subst (ShowsState (log c) key)
-      (sym (touched-core k d e touches key (row_of h key) c other)) (before c key)))
+  call-goes seat call reply made = (
+    follows.0,
+    λ c key.
+        cond_both (d == c) (entry ∷ log c) (log c) (λ l. ShowsState l key (state_or c (row key)))
+        (λ own. subst (λ c. ShowsState (entry ∷ log c) key (state_or c (row key))) (eqb-true d c own)
+        (here key))
+        (λ other. subst (ShowsState (log c) key)
+        (sym (touched-core k d e touches key (row_of h key) c other)) (before c key)),
+  )
     where
       k : ℕ
       k = called_key call
@@ -297,7 +303,7 @@ none-had key had = none had.begun.later had.earlier had.begun.is had.number had.
         sym (get-empty nat_cmp key) ∙ subst (λ l. get (map_of_log l) key ≡ Some n) (sym is) at in cc
     none (x ∷ later) earlier is n at = cc
 
-all-shown : (run : List Turn) → IsRun run → IsLegal (history_of run) × AreShown (history_of run) (core_log run)
+all-shown : (run : List Turn) → AreTurns run → IsLegal (history_of run) × AreShown (history_of run) (core_log run)
 all-shown [] is = (
   tt,
   λ c key.
@@ -310,7 +316,7 @@ all-shown (turn ∷ run) is =
     goes (history_of run) (core_log run) turn.thread turn.core before.1 turn.move is.1 in
     ((before.0, after.0), after.1)
 
-all-replayed : (run : List Turn) → IsRun run → (c : ℕ) → IsReplayed (core_log run c)
+all-replayed : (run : List Turn) → AreTurns run → (c : ℕ) → IsReplayed (core_log run c)
 all-replayed [] is c = tt
 all-replayed (turn ∷ run) is c =
     let before = all-replayed run is.0 c in

@@ -1,6 +1,6 @@
 -- What a core's log shows of a key, after one more call.
-use Rattle.std.proofs.Common.{◌≡◌, ◌≢◌, ◌∙◌, ◌⊎◌, ℕ, ◌≤◌, ◌==◌, Bool, true, false, not, cond, List, [], ◌∷◌, ◌++◌, Option, Some, None, ap, sym, subst, refl, inl, inr, arith}
-use Rattle.std.proofs.lemmas.Bool.{both_ways, cond-false, cond-true, cond_both, eq-eqb, eqb-false, ne_eqb, not-false, or_parts}
+use Rattle.std.proofs.Common.{◌≡◌, ◌≢◌, ◌∙◌, ◌⊎◌, ℕ, ◌==◌, true, false, not, cond, List, [], ◌∷◌, ◌++◌, Option, Some, None, ap, sym, subst, refl, inl, inr}
+use Rattle.std.proofs.lemmas.Bool.{cond-false, cond-true, cond_both, eq-eqb, eqb-false, ne_eqb, not-false, or_parts}
 use Rattle.std.specs.Cmp.{nat_cmp_total}
 use Rattle.std.specs.FinMap.{get, get-insert, get-remove}
 use Rattle.nb_core.specs.Calls.{leaves_alone, same_number}
@@ -12,9 +12,8 @@ use Rattle.nb_core.specs.declared.calls.Change.{Change}
 use Rattle.nb_core.specs.declared.calls.Want.{Want}
 use Rattle.nb_core.proofs.Computed.{map_after-left, same_key}
 use Rattle.nb_map.specs.FirstPut.{HasHad}
-use Rattle.nb_migration.specs.Numbers.{frozen_of}
 use Rattle.nb_migration.specs.Shown.{HasHadNumber, HasPast, ShowsState, number_of_state}
-use Rattle.nb_migration.specs.declared.numbers.TheConstants.{CLOSED, USER_MAX}
+use Rattle.nb_migration.specs.declared.numbers.TheConstants.{CLOSED}
 use Rattle.nb_moving.specs.declared.events.State.{State}
 use Rattle.nb_moving.specs.declared.events.State.TheVariants.{Never, Number, Gone, Frozen, Closed, Full}
 

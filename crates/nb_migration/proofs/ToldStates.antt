@@ -1,10 +1,10 @@
 -- What a look shows of a key, and whether it ever had a number, tells what it is in a core.
-use Rattle.std.proofs.Common.{◌≡◌, ◌≢◌, ◌∙◌, ℕ, ◌≤◌, Bool, true, false, List, Option, Some, None, ap, sym, refl}
+use Rattle.std.proofs.Common.{◌≡◌, ◌≢◌, ◌∙◌, ℕ, Bool, true, List, ap, sym, refl}
 use Rattle.std.specs.FinMap.{get}
 use Rattle.nb_core.specs.Log.{Entry, map_of_log}
 use Rattle.nb_map.specs.FirstPut.{HasHad}
-use Rattle.nb_migration.specs.Numbers.{frozen_of, seen_of}
-use Rattle.nb_migration.specs.Shown.{HasPast, IsTold, ShowsState, StatesAreTold, number_of_state}
+use Rattle.nb_migration.specs.Numbers.{seen_of}
+use Rattle.nb_migration.specs.Shown.{HasPast, StatesAreTold, number_of_state}
 use Rattle.nb_migration.specs.declared.numbers.Seen.{Seen}
 use Rattle.nb_migration.specs.declared.numbers.Seen.TheVariants as seen
 use Rattle.nb_migration.proofs.IdleCalls.{seen-frozen, seen-open}

@@ -1,5 +1,5 @@
 -- The calls that the protocol makes in a core, and which event of moving keys each of them is.
-use Rattle.std.specs.Prelude.{◌≡◌, ℕ, ◌≤◌, ◌-◌, Bool, true, false, if◌then◌else◌, List, ◌∷◌, Option, Some, None, Result, Ok, Err}
+use Rattle.std.specs.Prelude.{◌≡◌, ℕ, ◌≤◌, ◌-◌, Bool, true, false, if◌then◌else◌, List, Option, Some, None, Result, Ok, Err}
 use Rattle.nb_core.specs.Calls.{leaves_alone}
 use Rattle.nb_core.specs.History.{key_of_call}
 use Rattle.nb_core.specs.Log.{Entry, map_of_log, reply_at, reply_of}
@@ -128,14 +128,14 @@ HasFoundPast call log = Unit {0}
 
 -- What the author of an event knows of other cores, and of links: what `MayFollow` asks beside what
 -- the key is in the event's own core.
-abbrev pub Knows : List Event → Event → Type 0
-Knows h (event.Read t c a r) = (is_reached c (row_of h (key_of_call a)) ≡ true)
+abbrev pub KnowsOthers : List Event → Event → Type 0
+KnowsOthers h (event.Read t c a r) = (is_reached c (row_of h (key_of_call a)) ≡ true)
     × (r.before ≡ None → link_of h c ≡ None)
-Knows h (event.Write t c a r) = is_reached c (row_of h (key_of_call a)) ≡ true
-Knows h (event.Copy t i c k n) = HasSeenFrozen h k i c n
-Knows h (event.Mark t c j k n) = HasSeenFrozen h k c j n
+KnowsOthers h (event.Write t c a r) = is_reached c (row_of h (key_of_call a)) ≡ true
+KnowsOthers h (event.Copy t i c k n) = HasSeenFrozen h k i c n
+KnowsOthers h (event.Mark t c j k n) = HasSeenFrozen h k c j n
     × (had_number (state_in j (row_of h k)) ≡ true)
-Knows h _ = Unit {0}
+KnowsOthers h _ = Unit {0}
 
 -- The call is made after this history, in this core whose log was this, with this reply.
 pub record IsMade (h : List Event) (log : List Entry) (thread core : ℕ) (call : CoreCall)
@@ -147,7 +147,7 @@ pub record IsMade (h : List Event) (log : List Entry) (thread core : ℕ) (call 
   -- a key for which there was no slot gets none: of that the log shows nothing
   pub full : state_in core (row_of h (called_key call)) ≡ Full
       → leaves_alone (made_call call) reply.before ≡ true
-  pub knows : Knows h (event_of thread core call reply)
+  pub knows : KnowsOthers h (event_of thread core call reply)
 
 -- ---- a law
 

@@ -1,5 +1,5 @@
 -- Runs of the protocol: the logs of all cores, and the history of moving keys that they are.
-use Rattle.std.specs.Prelude.{◌≡◌, ℕ, ◌==◌, Bool, true, if◌then◌else◌, List, [], ◌∷◌, map}
+use Rattle.std.specs.Prelude.{◌≡◌, ℕ, ◌==◌, true, if◌then◌else◌, List, [], ◌∷◌, map}
 use Rattle.nb_core.specs.Log.{Entry, IsReplayed}
 use Rattle.nb_core.specs.declared.calls.Reply.{Reply}
 use Rattle.nb_migration.specs.CoreCalls.{CoreCall, IsMade, entry_by, event_of, called_key}
@@ -51,9 +51,9 @@ IsMove h log t c (Calls seat call reply) = IsMade h log t c call reply
 IsMove h log t c move = MayFollow h (event_by t c move)
 
 -- each turn is made after those before it
-abbrev pub IsRun : List Turn → Type 0
-IsRun [] = Unit {0}
-IsRun (turn ∷ run) = IsRun run
+abbrev pub AreTurns : List Turn → Type 0
+AreTurns [] = Unit {0}
+AreTurns (turn ∷ run) = AreTurns run
     × IsMove (history_of run) (core_log run turn.core) turn.thread turn.core turn.move
 
 -- ---- the laws
@@ -79,9 +79,9 @@ pub record HaveLogs (run : List Turn) : Type 0 where
 
 -- The logs of all cores and the history go together.
 abbrev pub CoresHaveLogs : Type 0
-CoresHaveLogs = (run : List Turn) → IsRun run → HaveLogs run
+CoresHaveLogs = (run : List Turn) → AreTurns run → HaveLogs run
 
 -- So the users' calls that were made in all cores are one map, by the law of moving.
 abbrev pub RunsAreOneMap : Type 0
 RunsAreOneMap =
-    (run : List Turn) → IsRun run → SealsHold (history_of run) → AreOneMap (history_of run)
+    (run : List Turn) → AreTurns run → SealsHold (history_of run) → AreOneMap (history_of run)

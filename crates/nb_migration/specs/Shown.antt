@@ -42,7 +42,7 @@ pub record ShowsState (log : List Entry) (key : ℕ) (s : State) : Type 0 where
   pub past : HasPast s log key
 
 -- What a look shows of a key, and whether it ever had a number, tells what it is there.
-pub record IsTold (log : List Entry) (key : ℕ) (s : State) : Type 0 where
+pub record TellsState (log : List Entry) (key : ℕ) (s : State) : Type 0 where
   pub frozen : (n : ℕ) → seen_of (get (map_of_log log) key) ≡ seen.Frozen n → s ≡ Frozen n
   pub closed : seen_of (get (map_of_log log) key) ≡ seen.Closed → (had : Bool) × (s ≡ Closed had)
   pub had : HasHad log key → seen_of (get (map_of_log log) key) ≢ seen.Closed
@@ -51,4 +51,4 @@ pub record IsTold (log : List Entry) (key : ℕ) (s : State) : Type 0 where
 -- So the author of an event learns what he has to know of other cores.
 abbrev pub StatesAreTold : Type 0
 StatesAreTold =
-    (log : List Entry) (key : ℕ) (s : State) → ShowsState log key s → IsTold log key s
+    (log : List Entry) (key : ℕ) (s : State) → ShowsState log key s → TellsState log key s
