@@ -24,7 +24,7 @@ before-reply (Get k) number = refl
 before-reply (Write k want change) number = refl
 
 -- a reply that says what the map has at the call's key is the map's
-reply_at-map : (c : Call) (m : Numbers) → reply_at c (get m (key_of_call c)) ≡ reply_of c m
+pub reply_at-map : (c : Call) (m : Numbers) → reply_at c (get m (key_of_call c)) ≡ reply_of c m
 reply_at-map (Get k) m = refl
 reply_at-map (Write k want change) m = refl
 

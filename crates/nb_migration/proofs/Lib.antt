@@ -4,6 +4,7 @@ mod IdleCalls
 mod MadeCalls
 mod OpenWrites
 mod Replied
+mod RunExamples
 mod RunLogs
 mod ShownStates
 mod Stepped

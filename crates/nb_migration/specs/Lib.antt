@@ -6,3 +6,4 @@ pub mod Laws
 pub mod Shown
 pub mod CoreCalls
 pub mod Runs
+pub mod Examples

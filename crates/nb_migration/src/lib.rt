@@ -9,6 +9,7 @@
 #![tactic(auto)]
 
 pub mod copying;
+pub mod examples;
 pub mod laws;
 pub mod looking;
 mod numbers;
