@@ -118,8 +118,8 @@ AreUsers (Marks to key n) = n ≤ USER_MAX
 AreUsers (Copies from key n) = n ≤ USER_MAX
 AreUsers call = Unit {0}
 
--- what the log before a call that acts says beyond its reply: a copy finds that its key never had a
--- number, which is `put_if_new`'s promise
+-- What the log before a call that acts tells beyond the reply: a copy comes where its key never had a
+-- number, as `put_if_new` promises; and a close says whether it had one.
 abbrev pub HasFoundPast : CoreCall → List Entry → Type 0
 HasFoundPast (Copies from key n) log = HasHad log key → ⊥
 HasFoundPast (Closes key true) log = HasHad log key
