@@ -1,5 +1,6 @@
 mod ActingCalls
 mod CallEvents
+mod EnteredCalls
 mod IdleCalls
 mod MadeCalls
 mod OpenWrites

@@ -1,11 +1,7 @@
 -- An example of a run: each turn is made after those before it.
 use Rattle.std.proofs.Common.{◌≡◌, ◌∙◌, ℕ, ◌==◌, true, false, List, [], ◌∷◌, ◌++◌, Some, None, ap, sym, subst, refl, arith}
 use Rattle.std.proofs.lemmas.Bool.{cond_both}
-use Rattle.std.specs.FinMap.{get}
-use Rattle.nb_core.specs.History.{key_of_call}
-use Rattle.nb_core.specs.Log.{Numbers, map_of_log, reply_at, reply_of}
-use Rattle.nb_core.specs.declared.calls.Call.{Call}
-use Rattle.nb_core.specs.declared.calls.Call.TheVariants.{Get, Write}
+use Rattle.nb_core.specs.Log.{map_of_log, reply_at}
 use Rattle.nb_core.specs.declared.calls.Reply.{Reply}
 use Rattle.nb_map.specs.NamedCalls.{put_of}
 use Rattle.nb_migration.specs.CoreCalls.{AreUsers, CoreCall, Copies, Freezes, HasFoundPast, IsMade, KnowsOthers, Looks, Marks, Writes, called_key, event_of, made_call}

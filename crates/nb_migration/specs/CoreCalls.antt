@@ -1,8 +1,8 @@
 -- The calls that the protocol makes in a core, and which event of moving keys each of them is.
-use Rattle.std.specs.Prelude.{◌≡◌, ℕ, ◌≤◌, ◌-◌, Bool, true, false, if◌then◌else◌, List, Option, Some, None, Result, Ok, Err}
+use Rattle.std.specs.Prelude.{◌≡◌, ℕ, ◌≤◌, ◌-◌, Bool, true, false, if◌then◌else◌, List, ◌∷◌, ◌++◌, Option, Some, None, Result, Ok, Err}
 use Rattle.nb_core.specs.Calls.{leaves_alone}
 use Rattle.nb_core.specs.History.{key_of_call}
-use Rattle.nb_core.specs.Log.{Entry, map_of_log, reply_at, reply_of}
+use Rattle.nb_core.specs.Log.{Entry, IsBeginning, map_of_log, reply_at, reply_of}
 use Rattle.nb_core.specs.declared.calls.Call.{Call}
 use Rattle.nb_core.specs.declared.calls.Call.TheVariants.{Get, Write}
 use Rattle.nb_core.specs.declared.calls.Change.{Change}
@@ -11,6 +11,8 @@ use Rattle.nb_core.specs.declared.calls.Reply.{Reply}
 use Rattle.nb_core.specs.declared.calls.Want.{Want}
 use Rattle.nb_core.specs.declared.calls.Want.TheVariants.{Any, Below}
 use Rattle.nb_map.specs.FirstPut.{HasHad, first_entry}
+use Rattle.nb_map.specs.Logs.{HasReplied, log}
+use Rattle.nb_map.specs.Maps.{SeatOf}
 use Rattle.nb_map.specs.NamedCalls.{add_below_of, add_of, exchange_of, put_below_of, put_if_absent_of, put_of, remove_below_of, remove_of}
 use Rattle.nb_migration.specs.Numbers.{seen_of}
 use Rattle.nb_migration.specs.Settling.{close_of, freeze_of, mark_of}
@@ -149,9 +151,24 @@ pub record IsMade (h : List Event) (log : List Entry) (thread core : ℕ) (call 
       → leaves_alone (made_call call) reply.before ≡ true
   pub knows : KnowsOthers h (event_of thread core call reply)
 
--- ---- a law
+-- ---- what the functions of this crate promise
 
--- the calls that the functions of this crate promise are those of the protocol
+-- The seat's call is one entry of its core's log, which is new, and replies as the map does that the
+-- entries before it leave.
+pub record IsEntered (call : CoreCall) (before after : SeatOf) (reply : Reply) : Type 0 where
+  pub later : List Entry
+  pub earlier : List Entry
+  pub entered : log after ≡ later ++ entry_by before.chain.number call reply ∷ earlier
+  pub fresh : IsBeginning (log before) earlier
+  pub replied : reply ≡ reply_of (made_call call) (map_of_log earlier)
+
+-- the calls of the protocol that the functions promise are such entries
+abbrev pub CallsAreEntries : Type 0
+CallsAreEntries =
+    (call : CoreCall) (before after : SeatOf) (reply : Reply)
+    → HasReplied (made_call call) before after reply → IsEntered call before after reply
+
+-- their calls are those of the protocol, by the names that they have there
 pub record AreMadeSo (key : ℕ) : Type 0 where
   pub put : (n : ℕ) → open_call (put_of key n) ≡ put_below_of key n USER_END
   pub add : (n : ℕ) → open_call (add_of key n) ≡ add_below_of key n (USER_END - n)
@@ -160,6 +177,5 @@ pub record AreMadeSo (key : ℕ) : Type 0 where
   pub copy : (seat from n : ℕ) → first_entry seat key n
       ≡ entry_by seat (Copies from key n) (reply_at (made_call (Copies from key n)) None)
 
--- The user's calls are made so, by the names that they have here.
 abbrev pub CallsAreMadeSo : Type 0
 CallsAreMadeSo = (key : ℕ) → AreMadeSo key

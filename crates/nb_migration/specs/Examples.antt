@@ -1,5 +1,5 @@
 -- Examples: a run of the protocol, and which events calls are. Nobody has to believe them.
-use Rattle.std.specs.Prelude.{ℕ, ◌+◌, true, false, List, [], ◌∷◌, Option, Some, None, map}
+use Rattle.std.specs.Prelude.{ℕ, true, false, List, [], ◌∷◌, Option, Some, None, map}
 use Rattle.nb_core.specs.declared.calls.Call.TheVariants.{Get}
 use Rattle.nb_core.specs.declared.calls.Reply.{Reply}
 use Rattle.nb_map.specs.NamedCalls.{add_of, put_if_absent_of, put_of}

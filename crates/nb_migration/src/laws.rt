@@ -1,6 +1,6 @@
 //! What a crate above may rest on, as laws. Nobody calls the functions that carry them; they are
 //! theorems in `proofs/Theorems.antt`.
-ghost use Rattle.nb_migration.specs.CoreCalls.{CallsAreMadeSo};
+ghost use Rattle.nb_migration.specs.CoreCalls.{CallsAreEntries, CallsAreMadeSo};
 ghost use Rattle.nb_migration.specs.Laws.{AnswersTell};
 ghost use Rattle.nb_migration.specs.Runs.{CallsAreEvents, CoresHaveLogs, RunsAreOneMap};
 ghost use Rattle.nb_migration.specs.Shown.{StatesAreTold};
@@ -10,6 +10,11 @@ use nb_moving::laws::cores_are_one_map;
 /// The answer of a write tells what the key had, and what it has then.
 pub fn answers_tell()
     ensures { AnswersTell }
+{}
+
+/// A call that a function promises is one entry of its core's log, which is new, with its reply.
+pub fn calls_are_entries()
+    ensures { CallsAreEntries }
 {}
 
 /// The users' calls are made in a core by the calls that `writes` and `copying` promise.
