@@ -49,32 +49,32 @@ moves_of_a_key =
     ∷ []
 
 -- a call with its reply
-pub record Replied : Type 0 where
+pub record CallWithReply : Type 0 where
   pub call : CoreCall
   pub reply : Reply
 
-abbrev pub replied : CoreCall → Reply → Replied
-replied call reply = record { call = call; reply = reply }
+abbrev pub with_reply : CoreCall → Reply → CallWithReply
+with_reply call reply = record { call = call; reply = reply }
 
 -- calls that change nothing, by thread 0 in core 0, and their events
-abbrev pub idle_calls : List Replied
+abbrev pub idle_calls : List CallWithReply
 idle_calls =
-    replied (Freezes 5 10) (unmet None)
-    ∷ replied (Freezes 5 10) (unmet (Some 11))
-    ∷ replied (Marks 1 5 10) (unmet (Some CLOSED))
-    ∷ replied (Closes 5 true) (unmet (Some 10))
-    ∷ replied (Copies 0 5 10) (unmet (Some 11))
-    ∷ replied (Writes true (put_of 5 11)) (unmet (Some (frozen_of 10)))
-    ∷ replied (Writes true (add_of 5 1)) (unmet (Some USER_MAX))
-    ∷ replied (Writes true (put_if_absent_of 5 11)) (unmet (Some 10))
-    ∷ replied (Writes true (put_of 5 10)) (met (Some 10))
-    ∷ replied (Looks true 5) (met (Some CLOSED))
-    ∷ replied (Looks true 5) (met (Some (frozen_of 10)))
-    ∷ replied (Looks false 5) (met (Some 10))
+    with_reply (Freezes 5 10) (unmet None)
+    ∷ with_reply (Freezes 5 10) (unmet (Some 11))
+    ∷ with_reply (Marks 1 5 10) (unmet (Some CLOSED))
+    ∷ with_reply (Closes 5 true) (unmet (Some 10))
+    ∷ with_reply (Copies 0 5 10) (unmet (Some 11))
+    ∷ with_reply (Writes true (put_of 5 11)) (unmet (Some (frozen_of 10)))
+    ∷ with_reply (Writes true (add_of 5 1)) (unmet (Some USER_MAX))
+    ∷ with_reply (Writes true (put_if_absent_of 5 11)) (unmet (Some 10))
+    ∷ with_reply (Writes true (put_of 5 10)) (met (Some 10))
+    ∷ with_reply (Looks true 5) (met (Some CLOSED))
+    ∷ with_reply (Looks true 5) (met (Some (frozen_of 10)))
+    ∷ with_reply (Looks false 5) (met (Some 10))
     ∷ []
 
-abbrev pub events_of : List Replied → List Event
-events_of = map (λ (r : Replied). event_of 0 0 r.call r.reply)
+abbrev pub events_of : List CallWithReply → List Event
+events_of = map (λ (r : CallWithReply). event_of 0 0 r.call r.reply)
 
 abbrev pub idle_events : List Event
 idle_events =

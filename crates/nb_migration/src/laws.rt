@@ -1,5 +1,5 @@
-//! What a crate above may rest on, as laws. Nobody calls the functions that carry them; they are
-//! theorems in `proofs/Theorems.antt`.
+//! What a crate above may rest on, as laws. Nobody calls the functions that carry them; all but the
+//! last are theorems in `proofs/Theorems.antt`.
 ghost use Rattle.nb_migration.specs.CoreCalls.{CallsAreEntries, CallsAreMadeSo};
 ghost use Rattle.nb_migration.specs.Laws.{AnswersTell};
 ghost use Rattle.nb_migration.specs.Runs.{CallsAreEvents, CoresHaveLogs, RunsAreOneMap};
