@@ -9,6 +9,7 @@ mod RunExamples
 mod RunLogs
 mod ShownStates
 mod Stepped
+mod Stretches
 mod Told
 mod ToldStates
 pub mod Theorems

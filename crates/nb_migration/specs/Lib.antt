@@ -2,6 +2,7 @@ pub mod Numbers
 pub mod Writes
 pub mod Settling
 pub mod Copying
+pub mod Pieces
 pub mod Laws
 pub mod Shown
 pub mod CoreCalls

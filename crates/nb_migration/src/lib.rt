@@ -13,6 +13,7 @@ pub mod examples;
 pub mod laws;
 pub mod looking;
 mod numbers;
+pub mod pieces;
 pub mod settling;
 pub mod updates;
 pub mod writes;
