@@ -21,7 +21,9 @@ done
 objects=("${sources[@]/%/.o}")
 parts=("@$here/src/links" "${objects[@]/#/$to/}" -Wl,--whole-archive "$archive" -Wl,--no-whole-archive "$kit/c/liblibc_c.a")
 
-printf '{ global: samvolip_*; local: *; };\n' > "$to/samvolip.map"
+# the calls in cores are for the files here
+own="$(grep -oE 'samvolip_core_[a-z_]+\(' "$here/src/cores.h" | tr '(\n' '; ')"
+printf '{ global: samvolip_*; local: %s *; };\n' "$own" > "$to/samvolip.map"
 rm -f "$to/libsamvolip.so" "$to/$name"
 "${CC:-cc}" -shared -o "$to/libsamvolip.so.$version" -Wl,-soname,"$name" -Wl,--version-script="$to/samvolip.map" \
     -Wl,-z,defs -Wl,-z,nodelete -Wl,-Bsymbolic-functions "${parts[@]}" -lpthread
@@ -31,7 +33,7 @@ rm "$to/samvolip.map"
 
 # one object file, whose other names are its own, so that they meet none of a program's
 "${CC:-cc}" -r -nostdlib -o "$to/samvolip.o" "${parts[@]}"
-"${OBJCOPY:-objcopy}" --wildcard --keep-global-symbol='samvolip_*' "$to/samvolip.o"
+"${OBJCOPY:-objcopy}" --wildcard --keep-global-symbol='!samvolip_core_*' --keep-global-symbol='samvolip_*' "$to/samvolip.o"
 rm -f "$to/libsamvolip.a"
 "${AR:-ar}" rcsD "$to/libsamvolip.a" "$to/samvolip.o"
 rm "$to/samvolip.o" "${objects[@]/#/$to/}"

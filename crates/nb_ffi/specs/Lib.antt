@@ -13,3 +13,4 @@ pub mod Telling
 pub mod Listing
 pub mod Many
 pub mod Whole
+pub mod Cores

@@ -26,7 +26,7 @@ pub const PRESENT: i32 = 1;
 /// A look found none.
 pub const ABSENT: i32 = 0;
 
-/// The number of tables isn't from 1 to 16.
+/// The number of tables isn't from 1 to 16; or a core hasn't one alone.
 pub const E_TABLES: i32 = -1;
 /// An exponent isn't from 2 to 28.
 pub const E_EXPONENTS: i32 = -2;
@@ -68,6 +68,29 @@ pub const E_LOST: i32 = -19;
 pub const E_VERSION: i32 = -20;
 /// All tables together have more than `2^30` slots.
 pub const E_SLOTS: i32 = -21;
+
+/// In a core, the key has no number, and none was put.
+pub const CORE_ABSENT: i32 = 0;
+/// The key has this number, which writes may change.
+pub const CORE_OPEN: i32 = 1;
+/// The key has this number, frozen.
+pub const CORE_FROZEN: i32 = 2;
+/// The key is closed.
+pub const CORE_CLOSED: i32 = 3;
+/// The key had no number, and has one by this call.
+pub const CORE_CAME: i32 = 4;
+/// The key had this number, and the write has changed it, or taken it out.
+pub const CORE_CHANGED: i32 = 5;
+/// The key has this number, which is left.
+pub const CORE_KEPT: i32 = 6;
+/// The key's number is frozen, or the key is closed: the write goes on behind the core.
+pub const CORE_MOVED: i32 = 7;
+/// The key has or had a number where one was to be copied.
+pub const CORE_HAD_NUMBER: i32 = 8;
+/// Other keys have all slots where a number was to be copied.
+pub const CORE_FULL: i32 = 9;
+/// The number isn't frozen in its source any more.
+pub const CORE_SETTLED: i32 = 10;
 
 /// A condition that asks nothing.
 pub const ANY: u32 = 0;

@@ -2,6 +2,7 @@
 //! code means, `specs/Codes.antt` says.
 
 mod calls;
+mod cores;
 mod ended;
 mod handles;
 mod library;

@@ -3,6 +3,7 @@
 #![tactic(auto)]
 
 mod codes;
+mod cores;
 mod cursor;
 mod ended_handle;
 mod ended_map;
