@@ -5,6 +5,7 @@ mod HandleBox
 mod HandleEmpty
 mod HandleLend
 mod HandleMove
+mod Left
 mod Lending
 mod Listed
 mod SeatBox

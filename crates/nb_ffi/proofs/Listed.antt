@@ -35,7 +35,7 @@ come-begun end before from room = record {
 }
 
 -- one entry more
-written-one :
+pub written-one :
     (pairs : List (ℕ × ℕ)) (room : List MapEntry) (pair : ℕ × ℕ) → length pairs < length room
     → slice_set (written_over pairs room) (length pairs) (entry_in_c pair)
     ≡ written_over (pairs ++ pair ∷ []) room

@@ -14,3 +14,4 @@ pub mod Listing
 pub mod Many
 pub mod Whole
 pub mod Cores
+pub mod Stretches

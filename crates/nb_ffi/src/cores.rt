@@ -102,7 +102,7 @@ pub(crate) fn sides_of(
 }
 
 /// Whether the handle's map has one table.
-fn is_core(seat: &mut SeatHandle) -> bool
+pub(crate) fn is_core(seat: &mut SeatHandle) -> bool
     requires open { IsOpenHandle seat.old.handle }
     ensures one { result ≡ is_core seat.old.handle }
     ensures same { seat.new.handle ≡ seat.old.handle }

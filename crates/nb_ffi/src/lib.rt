@@ -17,3 +17,4 @@ mod map_shape;
 mod occupancy;
 mod parts;
 mod seat_handle;
+mod stretch;

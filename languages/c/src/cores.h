@@ -99,6 +99,25 @@ int samvolip_core_copy_on(samvolip_seat *source, samvolip_seat *target, uint64_t
 /* Copies, and then, where the number has come or had come, marks the source. Refused as the mark is, too. */
 int samvolip_core_copy_and_mark(samvolip_seat *source, samvolip_seat *target, uint64_t key, uint64_t number, uint32_t tries);
 
+/* ---- a stretch of slots at once ---------------------------------------------------------------- */
+
+enum samvolip_core_limit {
+    SAMVOLIP_CORE_STRETCH = 128 /* how many slots are moved by a call at most */
+};
+
+typedef struct samvolip_core_stretch {
+    uint64_t passed; /* how many slots are done, from the first one on */
+    uint64_t left;   /* how many entries were written whose copies go on behind the target */
+} samvolip_core_stretch;
+
+/* Freezes the numbers of a stretch of slots of the source where they stand, copies them to the target, and marks them. It goes over `room`
+   slots from `first` on, but no more than SAMVOLIP_CORE_STRETCH, and none behind the last one; fewer, where another write came first:
+   then the caller goes on from there. `left` gets the keys and numbers, frozen in the source still, for which the target had no place.
+   Returns SAMVOLIP_OK; E_CONTENDED, where a mark was refused: then some are frozen still, and the same stretch is moved again; or
+   E_TABLES, where one of the two has more tables than one, and nothing happened. */
+int samvolip_core_move_stretch(samvolip_seat *source, samvolip_seat *target, size_t first, uint32_t tries, samvolip_entry *left,
+                               size_t room, samvolip_core_stretch *told);
+
 #ifdef __cplusplus
 }
 #endif

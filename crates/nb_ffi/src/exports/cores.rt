@@ -1,6 +1,6 @@
 //! Calls in cores: the looks, writes and steps of keys that move from map to map. The header of these
 //! is `languages/c/src/cores.h`.
-ghost use Rattle.std.specs.Prelude.{Ok, true, ◌≡◌};
+ghost use Rattle.std.specs.Prelude.{Ok, true, ◌&&◌, ◌≡◌};
 ghost use Rattle.nb_map.specs.Compound.{greater_of, less_of};
 ghost use Rattle.nb_map.specs.NamedCalls.{put_if_absent_of, remove_if_of};
 ghost use Rattle.nb_migration.specs.Settling.{close_of, freeze_of, mark_of};
@@ -26,13 +26,17 @@ ghost use Rattle.nb_ffi.specs.Cores.{
   open_remove_of,
 };
 ghost use Rattle.nb_ffi.specs.Handles.{IsOpenHandle};
+ghost use Rattle.nb_ffi.specs.Stretches.{IsStretchMove};
+ghost use Rattle.nb_ffi.specs.declared.stretch.CoreStretch.{CoreStretch};
 
-use crate::codes::key_of;
+use crate::codes::{E_TABLES, key_of};
 use crate::cores::{
-    copied_code, copied_on_code, copy_of, marked_code, seen_told, sides_of, tell, user_entry_of,
+    copied_code, copied_on_code, copy_of, is_core, marked_code, seen_told, sides_of, tell, user_entry_of,
     user_pair_of, written_told,
 };
+use crate::ended_map::MapEntry;
 use crate::seat_handle::SeatHandle;
+use crate::stretch::{self, CoreStretch};
 use nb_core::Key;
 use nb_migration::{UserNumber, copying, looking, settling, updates, writes};
 
@@ -436,4 +440,50 @@ fn copy_and_mark(
 {
     let (source, target) = (source.lend(), target.lend());
     marked_code(copying::copy_and_mark(source, target, key, number, tries))
+}
+
+/// `pieces::move_stretch`, of as many slots as the array has room for, but no more than 128. The
+/// entries whose copies go on behind the target are written into the array, and how far the move has
+/// come. Where a mark is refused the same stretch is to be moved again.
+#[unsafe(no_mangle)]
+pub extern "C" fn samvolip_core_move_stretch(
+    source: &mut SeatHandle,
+    target: &mut SeatHandle,
+    first: usize,
+    tries: u32,
+    left: &mut [MapEntry],
+    told: &mut CoreStretch,
+) -> i32
+    requires open { IsOpenHandle source.old.handle }
+    requires target_open { IsOpenHandle target.old.handle }
+    ensures { IsStretchMove (is_core source.old.handle && is_core target.old.handle) first tries
+        result left.old left.new told.old told.new
+        source.old.handle source.new.handle target.old.handle target.new.handle }
+{
+    if is_core(source) && is_core(target) {
+        let (code, moved) = move_stretch(source, target, first, tries, left);
+        *told = moved;
+        code
+    } else {
+        E_TABLES
+    }
+}
+
+/// `stretch::move_stretch` between two maps of one table.
+fn move_stretch(
+    source: &mut SeatHandle,
+    target: &mut SeatHandle,
+    first: usize,
+    tries: u32,
+    left: &mut [MapEntry],
+) -> (i32, CoreStretch)
+    requires open { IsOpenHandle source.old.handle }
+    requires target_open { IsOpenHandle target.old.handle }
+    requires one { is_core source.old.handle ≡ true }
+    requires target_one { is_core target.old.handle ≡ true }
+    ensures { (told : CoreStretch) → IsStretchMove true first tries result.0 left.old left.new told
+        result.1 source.old.handle source.new.handle target.old.handle target.new.handle }
+{
+    let (source, target) = (source.lend(), target.lend());
+    stretch::move_stretch(source, target, first, tries, left)
 }
