@@ -266,26 +266,25 @@ pub(crate) fn exchange(
         core.old.seat core.new.seat (max tries 1) result }
     ensures rest { KeepsRest core.old core.new }
 {
-    let (want, change) = (want_of(old), change_to(new));
-    let found = find(core, key, &want, &change, tries);
-    answer_or_fault(&want, &change, found)
+    let found = find(core, key, old, new, tries);
+    answer_or_fault(&want_of(old), &change_to(new), found)
 }
 
-/// Makes a write of the map, and tells what it found.
+/// Makes an exchange of the map, and tells what it found.
 #[inline(always)]
 fn find(
     core: &mut Handle,
     key: Key,
-    want: &Want,
-    change: &Change,
+    old: &Option<Num>,
+    new: &Option<Num>,
     tries: u32,
 ) -> Result<Option<Num>, PutFault>
-    ensures wrote { let made = call.Write key want.now change.now in
+    ensures wrote { let made = exchange_of key old.now new.now in
         HasWritten core.old.map made core.old.seat core.new.seat (Tries (max tries 1))
         (outcome_of made result) }
     ensures rest { KeepsRest core.old core.new }
 {
-    match core.put_if_match(key, *want, *change, tries) {
+    match core.compare_exchange(key, *old, *new, tries) {
         Ok(reply) => Ok(reply.before),
         Err(refusal) => Err(refusal),
     }

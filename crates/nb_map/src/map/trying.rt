@@ -263,11 +263,11 @@ impl Map {
             Some(number) => Want::Equal(number),
             None => Want::Absent,
         };
-        let change = match new {
-            Some(number) => Change::Put(number),
-            None => Change::Remove,
-        };
-        self.put_if_match(seat, key, want, change, tries)
+        // An arm for each change, as in `put_if_match`.
+        match new {
+            Some(number) => self.put_if_match_by(seat, key, want, Change::Put(number), tries),
+            None => self.put_if_match_by(seat, key, want, Change::Remove, tries),
+        }
     }
 
     /// Goes on with a write, and tells what it found.
