@@ -1,84 +1,115 @@
 //! The plain map.
-use nb_core::{Change, Key, Num, PlainFault, PlainMap, Reply, VALUE_MAX, Want};
+use super::plain::Ask::{Absent, Any, Below, Equal, Present};
+use super::plain::Make::{Add, Put, Remove};
+use nb_core::{Change, KEY_MAX, Key, Num, PlainFault, PlainMap, Reply, VALUE_MAX, Want};
+use std::alloc::Global;
 use std::process::Abort;
 
-fn replied(before: Option<Num>, matched: bool) -> Result<Reply, PlainFault> {
-    Ok(Reply { before, matched })
+/// What a write asks of the number that it finds.
+#[derive(Clone, Copy)]
+enum Ask {
+    Any,
+    Absent,
+    Present,
+    Equal(u32),
+    Below(u32),
 }
 
-/// Keys come in no order. Entries ascend.
-#[test]
-fn plain_map(rt: HostRuntime) {
-    let mut map = PlainMap::new(rt.alloc());
-    let last = Key::new(18446744073709551613).expect(&rt, "a key");
-    let (zero, one) = (Key::from(0_u32), Key::from(1_u32));
-    let (five, six) = (Num::from(5_u32), Num::from(6_u32));
-    for (row, key, want, change, before, matched) in [
-        (1, one, Want::Any, Change::Put(five), None, true),
-        (2, one, Want::Equal(six), Change::Remove, Some(five), false),
-        (3, last, Want::Any, Change::Put(six), None, true),
-        (4, zero, Want::Any, Change::Put(five), None, true),
-    ] {
-        let reply = map.apply(key, want, change);
-        assert!(rt; reply == replied(before, matched), "row {row}");
-    }
-    assert!(rt; map.get(one) == Some(five) && map.len() == 3);
-    let entries = [(zero, five), (one, five), (last, six)];
-    let listed = map.entries(rt.alloc()).expect(&rt, "memory");
-    assert!(rt; listed.as_slice() == entries.as_slice());
+/// What a write makes of the number.
+#[derive(Clone, Copy)]
+enum Make {
+    Put(u32),
+    Remove,
+    Add(u64),
 }
 
-#[test]
-fn conditional_calls(rt: HostRuntime) {
-    let mut map = PlainMap::new(rt.alloc());
-    let key = Key::from(5_u32);
-    let (one, two) = (Num::from(1_u32), Num::from(2_u32));
-    let (three, four) = (Num::from(3_u32), Num::from(4_u32));
-    for (row, want, change, before, matched) in [
-        (1, Want::Present, Change::Put(one), None, false),
-        (2, Want::Equal(one), Change::Put(two), None, false),
-        (3, Want::Absent, Change::Put(one), None, true),
-        (4, Want::Absent, Change::Put(two), Some(one), false),
-        (5, Want::Present, Change::Put(three), Some(one), true),
-        (6, Want::Equal(one), Change::Put(four), Some(three), false),
-        (7, Want::Equal(three), Change::Put(four), Some(three), true),
-        (8, Want::Equal(three), Change::Remove, Some(four), false),
-        (9, Want::Equal(four), Change::Remove, Some(four), true),
-        (10, Want::Equal(four), Change::Remove, None, false),
-        (11, Want::Any, Change::Remove, None, true),
-        (12, Want::Below(one), Change::Put(two), None, true),
-        (13, Want::Below(two), Change::Put(four), Some(two), false),
-        (14, Want::Below(three), Change::Add(one), Some(two), true),
-        (15, Want::Below(two), Change::Remove, Some(three), false),
-        (16, Want::Below(four), Change::Remove, Some(three), true),
-    ] {
-        let reply = map.apply(key, want, change);
-        assert!(rt; reply == replied(before, matched), "row {row}");
+/// A key, a write at it, and what was there, and whether it is what was asked for; or a refusal.
+type Row = (u64, Ask, Make, Result<(Option<u64>, bool), PlainFault>);
+
+/// Makes a write, and answers whether the reply is the row's.
+fn is_made<R: Abort>(rt: &R, map: &mut PlainMap, row: &Row) -> bool {
+    let (k, ask, make, due) = *row;
+    let want = match ask {
+        Any => Want::Any,
+        Absent => Want::Absent,
+        Present => Want::Present,
+        Equal(n) => Want::Equal(Num::from(n)),
+        Below(n) => Want::Below(Num::from(n)),
+    };
+    let change = match make {
+        Put(n) => Change::Put(Num::from(n)),
+        Remove => Change::Remove,
+        Add(n) => Change::Add(Num::new(n).expect(rt, "a number")),
+    };
+    match map.apply(Key::new(k).expect(rt, "a key"), want, change) {
+        Ok(reply) => due == Ok((reply.before.map(Num::get), reply.matched)),
+        Err(fault) => due == Err(fault),
     }
-    assert!(rt; map.get(key).is_none());
 }
+
+/// A new map makes these writes, and has these entries then, which ascend.
+fn plays<R: Abort>(rt: &R, alloc: Global, rows: &[Row], left: &[(u64, u64)]) {
+    let mut map = PlainMap::new(alloc);
+    for i in 0..rows.len() {
+        assert!(rt; is_made(rt, &mut map, &rows[i]), "row {i}");
+    }
+    let entries = map.entries(alloc).expect(rt, "memory");
+    assert!(rt; map.len() == left.len());
+    are(rt, &map, entries.as_slice(), left);
+}
+
+/// These are the entries, and the map has each of them.
+fn are<R: Abort>(rt: &R, map: &PlainMap, entries: &[(Key, Num)], left: &[(u64, u64)]) {
+    assert!(rt; entries.len() == left.len());
+    for i in 0..left.len() {
+        let (key, number) = entries[i];
+        assert!(rt; (key.get(), number.get()) == left[i] && map.get(key) == Some(number));
+    }
+}
+
+/// Keys come in no order.
+const PLAIN_MAP: [Row; 4] = [
+    (1, Any, Put(5), Ok((None, true))),
+    (1, Equal(6), Remove, Ok((Some(5), false))),
+    (KEY_MAX, Any, Put(6), Ok((None, true))),
+    (0, Any, Put(5), Ok((None, true))),
+];
+
+const CONDITIONAL_CALLS: [Row; 16] = [
+    (5, Present, Put(1), Ok((None, false))),
+    (5, Equal(1), Put(2), Ok((None, false))),
+    (5, Absent, Put(1), Ok((None, true))),
+    (5, Absent, Put(2), Ok((Some(1), false))),
+    (5, Present, Put(3), Ok((Some(1), true))),
+    (5, Equal(1), Put(4), Ok((Some(3), false))),
+    (5, Equal(3), Put(4), Ok((Some(3), true))),
+    (5, Equal(3), Remove, Ok((Some(4), false))),
+    (5, Equal(4), Remove, Ok((Some(4), true))),
+    (5, Equal(4), Remove, Ok((None, false))),
+    (5, Any, Remove, Ok((None, true))),
+    (5, Below(1), Put(2), Ok((None, true))),
+    (5, Below(2), Put(4), Ok((Some(2), false))),
+    (5, Below(3), Add(1), Ok((Some(2), true))),
+    (5, Below(2), Remove, Ok((Some(3), false))),
+    (5, Below(4), Remove, Ok((Some(3), true))),
+];
 
 /// The fourth add would pass the greatest number. It is refused, and changes nothing.
+const ADDS: [Row; 6] = [
+    (1, Any, Add(5), Ok((None, true))),
+    (1, Any, Add(6), Ok((Some(5), true))),
+    (1, Any, Add(VALUE_MAX - 11), Ok((Some(11), true))),
+    (1, Any, Add(1), Err(PlainFault::ValueRange)),
+    (1, Any, Add(0), Ok((Some(VALUE_MAX), true))),
+    (2, Any, Add(0), Ok((None, true))),
+];
+
+/// The rows plain_map, conditional_calls and adds.
 #[test]
-fn adds(rt: HostRuntime) {
-    let mut map = PlainMap::new(rt.alloc());
-    let (one, two) = (Key::from(1_u32), Key::from(2_u32));
-    let (five, six, eleven) = (Num::from(5_u32), Num::from(6_u32), Num::from(11_u32));
-    let greatest = Num::new(VALUE_MAX).expect(&rt, "a number");
-    let rest = Num::new(VALUE_MAX - 11).expect(&rt, "a number");
-    for (key, number, due) in [
-        (one, five, replied(None, true)),
-        (one, six, replied(Some(five), true)),
-        (one, rest, replied(Some(eleven), true)),
-        (one, Num::from(1_u32), Err(PlainFault::ValueRange)),
-        (one, Num::from(0_u32), replied(Some(greatest), true)),
-        (two, Num::from(0_u32), replied(None, true)),
-    ] {
-        let reply = map.apply(key, Want::Any, Change::Add(number));
-        assert!(rt; reply == due, "of {number:?}");
-    }
-    assert!(rt; map.len() == 2 && map.get(one) == Some(greatest));
-    assert!(rt; map.get(two) == Some(Num::from(0_u32)));
+fn writes(rt: HostRuntime) {
+    plays(&rt, rt.alloc(), &PLAIN_MAP, &[(0, 5), (1, 5), (KEY_MAX, 6)]);
+    plays(&rt, rt.alloc(), &CONDITIONAL_CALLS, &[]);
+    plays(&rt, rt.alloc(), &ADDS, &[(1, VALUE_MAX), (2, 0)]);
 }
 
 // The map has just the keys below `count`, each with itself as its number.
@@ -102,7 +133,8 @@ fn refused_memory(rt: HostRuntime) {
             assert_counts_to(&rt, &map, count);
             reply = map.apply(key, Want::Any, Change::Put(number));
         }
-        assert!(rt; reply == replied(None, true));
+        let (before, matched) = (None, true);
+        assert!(rt; reply == Ok(Reply { before, matched }));
     }
     let listed = match map.entries(rt.alloc()) {
         Ok(entries) => Ok(entries),

@@ -22,42 +22,28 @@ const BEGINS: [Step; 4] = [Put(0, 10), Put(4, 14), Put(8, 18), Installs(12, true
 
 /// A primes a slot. B reads its key, and so copies it, and A finds it copied, and table 1
 /// installed. Another slot is copied by a call for it.
-#[test]
-fn copy_of_one_slot(rt: HostRuntime) {
-    let turns: [(usize, &[Step]); 5] = [
-        (0, &BEGINS),
-        (0, &[Primes(LIVE_10)]),
-        (1, &[Get(0, Some(10))]),
-        (
-            0,
-            &[Copies(0, false), Primes(FINISHED_10), Installs(12, false)],
-        ),
-        (1, &[Live(1, 0, 0, 10), Copies(1, true)]),
-    ];
-    story(&rt, rt.alloc(), &[2, 3], 2, &turns, &THREE);
-}
+const COPY_OF_ONE_SLOT: [(usize, &[Step]); 5] = [
+    (0, &BEGINS),
+    (0, &[Primes(LIVE_10)]),
+    (1, &[Get(0, Some(10))]),
+    (
+        0,
+        &[Copies(0, false), Primes(FINISHED_10), Installs(12, false)],
+    ),
+    (1, &[Live(1, 0, 0, 10), Copies(1, true)]),
+];
 
 /// A seat copies the slots one after another, and counts each. The last one raises the top word.
-#[test]
-fn counted_slots_raise_the_top(rt: HostRuntime) {
-    let turns: [(usize, &[Step]); 2] = [
-        (0, &BEGINS),
-        (
-            0,
-            &[
-                Counts(0, true),
-                Top(0),
-                Counts(1, true),
-                Top(0),
-                Counts(2, true),
-                Top(0),
-                Counts(3, true),
-                Top(1),
-            ],
-        ),
-    ];
-    story(&rt, rt.alloc(), &[2, 3], 1, &turns, &THREE);
-}
+const COUNTED_SLOTS_RAISE_THE_TOP: [Step; 8] = [
+    Counts(0, true),
+    Top(0),
+    Counts(1, true),
+    Top(0),
+    Counts(2, true),
+    Top(0),
+    Counts(3, true),
+    Top(1),
+];
 
 /// A seat copies table 0, and removes its first key from table 1.
 const COPIES_TABLE: [Step; 12] = [
@@ -142,23 +128,14 @@ fn stopped<R: Abort>(
     leaves(rt, alloc, chain, seats, &LEFT);
 }
 
-/// B has copied both tables when A goes on.
+/// The row stopped_copier: B has copied both tables when A goes on. Then B has copied just the first
+/// one.
 #[test]
-fn stopped_copier(rt: HostRuntime) {
+fn stopped_copiers(rt: HostRuntime) {
     let both: (&[Step], &[Step]) = (&COPIES_TABLE, &CROWDS_NEXT);
     stopped(&rt, rt.alloc(), PRIMED_TOMBSTONE, both, &[]);
-}
-
-/// B has copied just the first one.
-#[test]
-fn copier_between_two_copies(rt: HostRuntime) {
-    stopped(
-        &rt,
-        rt.alloc(),
-        TOMBSTONE,
-        (&COPIES_TABLE, &[]),
-        &CROWDS_NEXT,
-    );
+    let first: (&[Step], &[Step]) = (&COPIES_TABLE, &[]);
+    stopped(&rt, rt.alloc(), TOMBSTONE, first, &CROWDS_NEXT);
 }
 
 /// A makes so many steps of a copy of the first slot, and stops. B copies both tables. A then finds
@@ -223,43 +200,52 @@ const HAS_SIX_COPIED: [Step; 16] = [
 ];
 
 /// A, B and C ask for a chunk each of a table of two. What C is handed lies past the table's end.
-#[test]
-fn three_helpers(rt: HostRuntime) {
-    let turns: [(usize, &[Step]); 6] = [
-        (0, &FILLS_TWO_CHUNKS),
-        (0, &[Helps(8)]),
-        (2, &[Top(0)]),
-        (1, &[Helps(8)]),
-        (2, &[Helps(0), Takes(24), Top(1)]),
-        (2, &HAS_SIX_COPIED),
-    ];
-    story(&rt, rt.alloc(), &[4, 5], 3, &turns, &SIX);
-}
+const THREE_HELPERS: [(usize, &[Step]); 6] = [
+    (0, &FILLS_TWO_CHUNKS),
+    (0, &[Helps(8)]),
+    (2, &[Top(0)]),
+    (1, &[Helps(8)]),
+    (2, &[Helps(0), Takes(24), Top(1)]),
+    (2, &HAS_SIX_COPIED),
+];
 
 /// A takes a chunk and stops. B copies the other one. A then takes what lies past the table's end.
 /// B copies what A left, which raises the top word, and A finds each slot of its chunk copied.
+const FINISHED_BY_ANOTHER: [(usize, &[Step]); 6] = [
+    (0, &FILLS_TWO_CHUNKS),
+    (0, &[Takes(0)]),
+    (1, &[Helps(8)]),
+    (0, &[Takes(16)]),
+    (1, &[Top(0), Completes, Top(1)]),
+    (0, &FINDS_ITS_CHUNK_COPIED),
+];
+
+const FINDS_ITS_CHUNK_COPIED: [Step; 9] = [
+    KnownTop(0),
+    Copies(0, false),
+    Copies(1, false),
+    Copies(2, false),
+    Copies(3, false),
+    Copies(4, false),
+    Copies(5, false),
+    Copies(6, false),
+    Copies(7, false),
+];
+
+const STORIES: [Story; 4] = [
+    (&[2, 3], 2, &COPY_OF_ONE_SLOT, &THREE),
+    (
+        &[2, 3],
+        1,
+        &[(0, &BEGINS), (0, &COUNTED_SLOTS_RAISE_THE_TOP)],
+        &THREE,
+    ),
+    (&[4, 5], 3, &THREE_HELPERS, &SIX),
+    (&[4, 5], 2, &FINISHED_BY_ANOTHER, &SIX),
+];
+
+/// The rows that are named as their turns are.
 #[test]
-fn finished_by_another(rt: HostRuntime) {
-    let turns: [(usize, &[Step]); 6] = [
-        (0, &FILLS_TWO_CHUNKS),
-        (0, &[Takes(0)]),
-        (1, &[Helps(8)]),
-        (0, &[Takes(16)]),
-        (1, &[Top(0), Completes, Top(1)]),
-        (
-            0,
-            &[
-                KnownTop(0),
-                Copies(0, false),
-                Copies(1, false),
-                Copies(2, false),
-                Copies(3, false),
-                Copies(4, false),
-                Copies(5, false),
-                Copies(6, false),
-                Copies(7, false),
-            ],
-        ),
-    ];
-    story(&rt, rt.alloc(), &[4, 5], 2, &turns, &SIX);
+fn copies_by_turns(rt: HostRuntime) {
+    play(&rt, rt.alloc(), &STORIES);
 }

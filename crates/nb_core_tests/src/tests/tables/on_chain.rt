@@ -7,7 +7,7 @@ ghost use Rattle.nb_table.specs.Chains.{AreOwn, IsOwn};
 use nb_core::{Change, Key, NotAll, Num, Reply, Shape, Want, encode_key, encode_value};
 use nb_map::PutFault;
 use nb_map::steps::{NoPause, put_if_match_in};
-use nb_table::{Chain, ChainSeat};
+use nb_table::{Chain, ChainSeat, Closed};
 use std::alloc::Global;
 use std::process::Abort;
 
@@ -121,10 +121,15 @@ pub(super) fn leaves<R: Abort>(
         panic!(rt; "all seats are there")
     };
     let entries = closed.entries(alloc).expect(rt, "memory");
-    assert_eq!(rt; entries.len(), pairs.len());
-    for (entry, (k, n)) in entries.iter().zip(pairs) {
-        assert_eq!(rt; (entry.0.get(), entry.1.get()), (*k, *n));
-        assert_eq!(rt; closed.get(entry.0), Some(entry.1));
+    are_left(rt, &closed, entries.as_slice(), pairs);
+}
+
+/// Just these keys are left, each with its number, and key 1000 isn't.
+fn are_left<R: Abort>(rt: &R, closed: &Closed, entries: &[(Key, Num)], pairs: &[(u64, u64)]) {
+    assert!(rt; entries.len() == pairs.len() && closed.get(key(rt, 1000)).is_none());
+    for i in 0..entries.len() {
+        let (key, number) = entries[i];
+        assert!(rt; (key.get(), number.get()) == pairs[i], "entry {i}");
+        assert!(rt; closed.get(key) == Some(number), "entry {i}");
     }
-    assert_eq!(rt; closed.get(key(rt, 1000)), None);
 }

@@ -12,7 +12,7 @@ use std::alloc::Global;
 use std::process::Abort;
 
 /// A table of four slots is filled. There is no room for a fifth key.
-const ONE_TABLE: [Step; 8] = [
+const ONE_TABLE_BY_HAND: [Step; 8] = [
     Put(0, 10),
     Put(1, 11),
     Put(2, 12),
@@ -24,7 +24,7 @@ const ONE_TABLE: [Step; 8] = [
 ];
 
 /// Four keys have one home: the fourth doesn't fit, and they are copied to the second table.
-const GROWS: [Step; 17] = [
+const GROWS_WHEN_A_PATH_IS_CROWDED: [Step; 17] = [
     Put(0, 10),
     Put(4, 14),
     Put(8, 18),
@@ -45,7 +45,7 @@ const GROWS: [Step; 17] = [
 ];
 
 /// A key is removed before the table is copied.
-const REMOVES_BEFORE_A_COPY: [Step; 13] = [
+const A_REMOVAL_IS_NOT_COPIED: [Step; 13] = [
     Put(0, 10),
     Put(4, 14),
     Put(8, 18),
@@ -62,7 +62,7 @@ const REMOVES_BEFORE_A_COPY: [Step; 13] = [
 ];
 
 /// The second table is as crowded by four keys as the first, and the third takes them.
-const GROWS_TWICE: [Step; 13] = [
+const PLAN_OF_THREE: [Step; 13] = [
     Put(0, 10),
     Put(4, 14),
     Put(8, 18),
@@ -80,7 +80,7 @@ const GROWS_TWICE: [Step; 13] = [
 
 /// Keys crowd the first table and are removed, and others fill the next one, which is as large.
 /// None of the first is copied there.
-const MAKES_ROOM: [Step; 19] = [
+const SAME_SIZE_SUCCESSOR: [Step; 19] = [
     Put(0, 10),
     Put(4, 14),
     Put(8, 18),
@@ -103,7 +103,7 @@ const MAKES_ROOM: [Step; 19] = [
 ];
 
 /// One key more than the second table takes, which is no larger than the first.
-const FILLS_BOTH: [Step; 9] = [
+const SAME_SIZE_FULL: [Step; 9] = [
     Put(0, 10),
     Put(4, 14),
     Put(8, 18),
@@ -117,57 +117,49 @@ const FILLS_BOTH: [Step; 9] = [
 
 const FOUR: [(u64, u64); 4] = [(0, 10), (4, 14), (8, 18), (12, 22)];
 
-#[test]
-fn one_table_by_hand(rt: HostRuntime) {
-    let left = [(0, 20), (1, 11), (2, 12), (3, 13)];
-    story(&rt, rt.alloc(), &[2], 1, &[(0, &ONE_TABLE)], &left);
-}
-
-#[test]
-fn grows_when_a_path_is_crowded(rt: HostRuntime) {
-    story(&rt, rt.alloc(), &[2, 3, 4], 1, &[(0, &GROWS)], &FOUR);
-}
-
-#[test]
-fn a_removal_is_not_copied(rt: HostRuntime) {
-    let left = [(0, 10), (8, 18), (12, 22)];
-    let turns: [(usize, &[Step]); 1] = [(0, &REMOVES_BEFORE_A_COPY)];
-    story(&rt, rt.alloc(), &[2, 3, 4], 1, &turns, &left);
-}
-
-#[test]
-fn plan_of_three(rt: HostRuntime) {
-    story(&rt, rt.alloc(), &[2, 2, 3], 1, &[(0, &GROWS_TWICE)], &FOUR);
-}
-
-#[test]
-fn same_size_successor(rt: HostRuntime) {
-    let left = [(12, 22), (16, 26), (20, 30), (24, 34)];
-    story(&rt, rt.alloc(), &[2, 2], 1, &[(0, &MAKES_ROOM)], &left);
-}
-
-#[test]
-fn same_size_full(rt: HostRuntime) {
-    story(&rt, rt.alloc(), &[2, 2], 1, &[(0, &FILLS_BOTH)], &FOUR);
-}
-
 /// A puts three keys, B grows the chain for a fourth and copies them, and A finds all four.
+const FINDS_WHAT_ANOTHER_COPIED: [(usize, &[Step]); 3] = [
+    (0, &[Put(0, 10), Put(4, 14), Put(8, 18)]),
+    (1, &[Put(12, 22), Top(1)]),
+    (0, &FINDS_FOUR),
+];
+
+const FINDS_FOUR: [Step; 4] = [
+    Get(0, Some(10)),
+    Get(4, Some(14)),
+    Get(8, Some(18)),
+    Get(12, Some(22)),
+];
+
+const STORIES: [Story; 7] = [
+    (
+        &[2],
+        1,
+        &[(0, &ONE_TABLE_BY_HAND)],
+        &[(0, 20), (1, 11), (2, 12), (3, 13)],
+    ),
+    (&[2, 3, 4], 1, &[(0, &GROWS_WHEN_A_PATH_IS_CROWDED)], &FOUR),
+    (
+        &[2, 3, 4],
+        1,
+        &[(0, &A_REMOVAL_IS_NOT_COPIED)],
+        &[(0, 10), (8, 18), (12, 22)],
+    ),
+    (&[2, 2, 3], 1, &[(0, &PLAN_OF_THREE)], &FOUR),
+    (
+        &[2, 2],
+        1,
+        &[(0, &SAME_SIZE_SUCCESSOR)],
+        &[(12, 22), (16, 26), (20, 30), (24, 34)],
+    ),
+    (&[2, 2], 1, &[(0, &SAME_SIZE_FULL)], &FOUR),
+    (&[2, 3, 4], 2, &FINDS_WHAT_ANOTHER_COPIED, &FOUR),
+];
+
+/// The rows that are named as their steps are.
 #[test]
-fn finds_what_another_copied(rt: HostRuntime) {
-    let turns: [(usize, &[Step]); 3] = [
-        (0, &[Put(0, 10), Put(4, 14), Put(8, 18)]),
-        (1, &[Put(12, 22), Top(1)]),
-        (
-            0,
-            &[
-                Get(0, Some(10)),
-                Get(4, Some(14)),
-                Get(8, Some(18)),
-                Get(12, Some(22)),
-            ],
-        ),
-    ];
-    story(&rt, rt.alloc(), &[2, 3, 4], 2, &turns, &FOUR);
+fn calls_and_the_slots_that_they_leave(rt: HostRuntime) {
+    play(&rt, rt.alloc(), &STORIES);
 }
 
 /// A seat that puts a number at a key once, before the first exchange of another seat's write. It

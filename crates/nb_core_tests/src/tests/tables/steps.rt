@@ -218,16 +218,15 @@ pub(super) fn by_turns<R: Abort>(rt: &R, chain: &Chain, seats: &mut [ChainSeat],
     }
 }
 
-/// The same in a new chain. These keys are left, each with its number.
-pub(super) fn story<R: Abort>(
-    rt: &R,
-    alloc: Global,
-    exponents: &[u32],
-    seats: usize,
-    turns: Turns<'_>,
-    left: &[(u64, u64)],
-) {
-    let (chain, mut seats) = chain_of(rt, alloc, exponents, seats);
-    by_turns(rt, &chain, seats.as_mut_slice(), turns);
-    leaves(rt, alloc, chain, seats, left);
+/// The exponents of a chain's tables, how many seats it has, their turns, and the keys that are left,
+/// each with its number.
+pub(super) type Story = (&'static [u32], usize, Turns<'static>, &'static [(u64, u64)]);
+
+/// Each story in a new chain.
+pub(super) fn play<R: Abort>(rt: &R, alloc: Global, stories: &[Story]) {
+    for (exponents, count, turns, left) in stories {
+        let (chain, mut seats) = chain_of(rt, alloc, exponents, *count);
+        by_turns(rt, &chain, seats.as_mut_slice(), turns);
+        leaves(rt, alloc, chain, seats, left);
+    }
 }
