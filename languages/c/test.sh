@@ -14,7 +14,8 @@ shopt -s extglob
 #   sources    as they are                           divided     into parts while it is small still, with -DSAMVOLIP_CHECKED
 #   fenced     without membarrier                    small       with small tables at most
 #   sanitized  divided, by each sanitizer; address and thread name one of them
-# and each request for memory refused in turn: refused with libsamvolip.a, refused_parts with the sources, divided.
+# and each request for memory refused in turn: refused with libsamvolip.a, which takes pages alone; refused_each with the sources, and
+# malloc's small blocks; refused_parts with these, divided.
 tests() {
     cat << 'TABLE'
 calls           archive kit shared sanitized
@@ -24,6 +25,7 @@ threads         archive checked=20000 sanitized=5000
 many_seats      archive checked=500,100000 sanitized=200,50000
 large           archive sanitized=6
 checked         archive
+passed_maps     archive=100000 sanitized=2000
 blocks          memory sanitized=100
 bindings        archive musl sanitized
 objects         archive fenced=20000 sanitized=5000
@@ -33,7 +35,7 @@ filtered        archive
 inside_map      sources
 inside_memory   sources
 inside_objects  sources
-memory          refused
+memory          refused refused_each
 endless_memory  refused_parts
 refused_handlers archive
 TABLE
@@ -58,7 +60,8 @@ try() {
             parts=("${sanitized[@]}") more=("${divided[@]}" "${sanitizing[@]}")
             ;;
         refused) run=(refuse "$test.$kind") ;;
-        refused_parts) parts=("${sources[@]}") more=(-DDIVIDED_FROM=8 -DPART_BITS=1) run=(refuse "$test.$kind") ;;
+        refused_each) parts=("${sources[@]}") more=(-DOURS_FROM=262144) run=(refuse "$test.$kind") ;;
+        refused_parts) parts=("${sources[@]}") more=(-DOURS_FROM=262144 -DDIVIDED_FROM=8 -DPART_BITS=1) run=(refuse "$test.$kind") ;;
         *) fail "$test: there is no kind of build $kind" ;;
     esac
     [ ${#parts[@]} = 0 ] || [ "$kind" = memory ] || links=("${parts_links[@]}")

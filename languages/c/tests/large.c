@@ -105,8 +105,8 @@ static void has_its_own(samvolip_seat *seat)
     samvolip_free(&other);
 }
 
-/* How many MiB of addresses there are, without the trays that are kept until a large table is made. */
-static double without_trays(void)
+/* How many MiB of addresses there are, without those of slabs of tables that are kept until a large table is made. */
+static double without_slabs(void)
 {
     samvolip_seat large = opened(&shapes[2]);
     samvolip_free(&large);
@@ -118,14 +118,14 @@ static double without_trays(void)
 static void refused(int (*call)(samvolip_seat *, const samvolip_shape *), samvolip_seat *seat, unsigned room)
 {
     struct rlimit limit, before;
-    double all = without_trays();
+    double all = without_slabs();
     EXPECT(getrlimit(RLIMIT_AS, &before) == 0);
     limit = before;
     limit.rlim_cur = ((rlim_t)all + room) << 20;
     EXPECT(setrlimit(RLIMIT_AS, &limit) == 0);
     int code = call(seat, &shapes[2]);
     EXPECT(setrlimit(RLIMIT_AS, &before) == 0);
-    EXPECT(code == SAMVOLIP_E_OUT_OF_MEMORY && without_trays() < all + 2);
+    EXPECT(code == SAMVOLIP_E_OUT_OF_MEMORY && without_slabs() < all + 2);
 }
 
 static int open_empty(samvolip_seat *seat, const samvolip_shape *shape)
@@ -165,8 +165,10 @@ static double number_in(const char *file, const char *format)
    for all that is zero. */
 static void gives_back(void)
 {
-    struct mebibytes before = expect_mebibytes();
     samvolip_seat seat = opened(&shapes[2]);
+    samvolip_free(&seat); /* pages that small blocks lay in are kept for the next ones */
+    struct mebibytes before = expect_mebibytes();
+    seat = opened(&shapes[2]);
     struct mebibytes meanwhile = expect_mebibytes();
     double most = number_in("/proc/self/status", "VmHWM: %lf") / 1024;
     EXPECT(most < meanwhile.present + 9 || number_in("/sys/kernel/mm/transparent_hugepage/use_zero_page", "%lf") == 0);
