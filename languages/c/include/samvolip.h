@@ -67,13 +67,12 @@
  *
  * Memory. samvolip_open reserves all tables of the map, and the map keeps them until it is freed.
  * samvolip_open, samvolip_split, samvolip_settle, samvolip_entries, samvolip_renew, samvolip_close
- * and samvolip_ended_entries take memory; no other call does. It is the program's malloc's, but for
- * blocks of 256 KiB and more, as tables and lists of large maps are. Those libsamvolip.so and
- * libsamvolip.a take from the system, in huge pages where it has some, and give back when they are
- * freed, but for two of a size, of 2 to 16 MiB, while another of it is in use; those of less than 2
- * MiB lie together in 8 MiB of addresses, which are given back with the last of them, but for two
- * such, until a block of more than 8 MiB is taken. So a handle is used with the copy of the library
- * that opened its map.
+ * and samvolip_ended_entries take memory; no other call does. libsamvolip.so and libsamvolip.a take
+ * it from the system, without a lock of their own, and tables and lists of large maps in huge pages
+ * where it has some. They give it back when it is freed, but for two blocks of a size, of 2 to 16
+ * MiB, while another of it is in use; those of less than 2 MiB lie together in 8 MiB of addresses,
+ * which are given back with the last of them, but for two such, until a block of more than 8 MiB is
+ * taken. So a handle is used with the copy of the library that opened its map.
  *
  * Versions. samvolip_open tells the library which header the program was compiled with: its version
  * and the sizes of its structs. The library takes each header of its series, from version 0.9.0 on,

@@ -1,21 +1,21 @@
 /* memory.c - the memory of libsamvolip.so and libsamvolip.a, in C and not proved. The linker puts its functions in place of those that
    the library's code calls (--wrap, by the file `links`). No call takes a lock or waits for another thread, whatever that does. A thread
-   that is stopped for good within one keeps the block that it takes or gives, and at most one slab or large block beside it.
+   that is stopped for good within one keeps the block that it takes or gives, and the pages of one slab or large block at most.
 
    Large blocks, from 2 MiB on, are pages of the system, huge ones where Linux has some. All others lie in slabs. The blocks of a slab are
    of one size class; a bit for each says whether somebody has it. So a take and a give change a bit each, which is right however late it
    comes, and nobody reads what lies in a free block. With its last block a slab's pages go; those of two are kept for the next ones. A
-   slab of small blocks is itself a block of a slab. All others, and large blocks, begin at a multiple of a huge page, a unit, of which a
-   map of two levels tells whose it is: a slab's, a large block's, or nothing of this file.
+   small slab is itself a block of a slab. All others, and large blocks, begin at a multiple of a huge page, a unit. A map of two levels
+   tells for each unit whose it is: a slab's, a large block's, or nothing of this file.
 
-   Who writes a shared word, and who reads it:
-
+   A shared word                   is written by                                          and read by
    leaves[]                        who needs a leaf first, once                           who looks what is at an address
    units[] of a leaf               who makes or gives back pages there                    who has a block there
    slabs of a class, `after`       who adds slabs, in front; none is taken out            who looks for a slab with room, or one to make
    near of a class                 who takes a block from another slab than that          who takes a block
-   held of a slab                  adds 1: who is about to take a block; subtracts 1: who gave one; puts CHANGES for 0 or NO_PAGES,
-                                   and another number then: who makes or unmakes the slab; all of these read it
+   held of a slab                  adds 1: who is about to take a block; subtracts 1:     who looks for room, or for a slab to make;
+                                   who gave one; CHANGES for 0 or NO_PAGES, and then      who gave the last block
+                                   another number: who makes or unmakes the slab
    begin of a slab                 who has put CHANGES there                              who has a block of it, or takes one
    taken[] of a slab               its bit: who takes or gives a block; all: as `begin`   who takes one
    used of a size                  who takes or gives a large block of it                 who gives one
@@ -24,7 +24,6 @@
 #include <stdatomic.h>
 #include <stdbool.h>
 #include <stdint.h>
-#include <stdlib.h>
 #include <string.h>
 #include <sys/mman.h>
 
@@ -34,7 +33,6 @@
 #define SMALL_SLAB ((size_t)1 << 18)
 #define SMALL ((size_t)1 << 15)    /* the largest block of a small slab */
 #define MIDDLING ((size_t)7 << 15) /* larger ones are of whole pages, and their slabs in huge pages */
-#define LARGE UNIT
 #define KEPT ((size_t)1 << 24) /* the largest block that is kept */
 #if !defined(OURS_FROM) && (defined(__SANITIZE_ADDRESS__) || defined(__SANITIZE_THREAD__))
 #define OURS_FROM (MIDDLING + 1) /* smaller blocks are malloc's, which a sanitizer watches */
@@ -54,8 +52,7 @@ enum { UNITS = 1 << 13, FIRST_LEAVES = 2 };
 typedef struct leaf {
     _Atomic uintptr_t units[UNITS];
 } leaf;
-static leaf *_Atomic leaves[UNITS];
-static leaf first_leaves[FIRST_LEAVES];
+static leaf *_Atomic leaves[UNITS], first_leaves[FIRST_LEAVES];
 static _Atomic unsigned leaves_made;
 
 static void *new_zeros(size_t size)
@@ -69,19 +66,17 @@ static leaf *make_leaf(leaf *_Atomic *place)
 {
     unsigned number = atomic_fetch_add_explicit(&leaves_made, 1, memory_order_relaxed);
     leaf *fresh = number < FIRST_LEAVES ? &first_leaves[number] : new_zeros(sizeof *fresh), *there = NULL;
-    bool is_first = fresh && atomic_compare_exchange_strong_explicit(place, &there, fresh, memory_order_release, memory_order_acquire);
-    return is_first ? fresh : there;
+    bool is_put = fresh && atomic_compare_exchange_strong_explicit(place, &there, fresh, memory_order_release, memory_order_acquire);
+    return is_put ? fresh : there;
 }
 
 /* The word of an address's unit; NULL where there is no leaf, and none is to be made or can be. */
 static _Atomic uintptr_t *unit_of(const void *at, bool makes)
 {
-    uintptr_t unit = (uintptr_t)at / UNIT;
-    if (unit / UNITS >= UNITS) /* more than the 47 bits of those that mmap gives */
-        return NULL;
-    leaf *in = atomic_load_explicit(&leaves[unit / UNITS], memory_order_acquire);
+    uintptr_t unit = (uintptr_t)at / UNIT, number = unit / UNITS; /* mmap gives addresses of 47 bits */
+    leaf *in = number < UNITS ? atomic_load_explicit(&leaves[number], memory_order_acquire) : NULL;
     if (!in && makes)
-        in = make_leaf(&leaves[unit / UNITS]);
+        in = make_leaf(&leaves[number]);
     return in ? &in->units[unit % UNITS] : NULL;
 }
 
@@ -183,8 +178,7 @@ static void *take_large(size_t whole)
     return block;
 }
 
-/* If others of its size are in use, the block is kept: a map that is renewed takes its tables by turns, and need not wait for the system to
-   clear pages. */
+/* If others of its size are in use, the block is kept for the next one, which then need not wait for the system to clear pages. */
 static void give_large(char *block, size_t whole)
 {
     pages *of = of_size(whole);
@@ -215,10 +209,7 @@ typedef struct head {
 
 /* A class for each size of blocks, and one of small slabs. */
 enum { SMALL_SLABS = 503, CLASSES, FIRST_SLABS = 512, MORE_SLABS = PAGE / sizeof(slab) };
-static struct class {
-    slab *_Atomic slabs, *_Atomic near;
-} classes[CLASSES];
-static slab first_slabs[FIRST_SLABS];
+static slab *_Atomic slabs[CLASSES], *_Atomic near[CLASSES], first_slabs[FIRST_SLABS];
 static _Atomic unsigned slabs_made;
 
 static void *take(unsigned class, size_t each);
@@ -245,9 +236,8 @@ static size_t count_of(size_t each)
 /* Adds slabs without pages to a class, and returns one of them, which this thread changes; NULL without memory. */
 static slab *add_slabs(unsigned class, size_t each)
 {
-    slab *_Atomic *slabs = &classes[class].slabs, *first = atomic_load_explicit(slabs, memory_order_relaxed);
     unsigned made = atomic_fetch_add_explicit(&slabs_made, 1, memory_order_relaxed), count = made < FIRST_SLABS ? 1 : MORE_SLABS;
-    slab *fresh = count == 1 ? &first_slabs[made] : new_zeros(PAGE);
+    slab *fresh = count == 1 ? &first_slabs[made] : new_zeros(PAGE), *first = atomic_load_explicit(&slabs[class], memory_order_relaxed);
     if (!fresh)
         return NULL;
     for (unsigned i = 0; i < count; i++) {
@@ -259,7 +249,7 @@ static slab *add_slabs(unsigned class, size_t each)
     }
     do
         fresh[count - 1].after = first;
-    while (!atomic_compare_exchange_weak_explicit(slabs, &first, fresh, memory_order_release, memory_order_relaxed));
+    while (!atomic_compare_exchange_weak_explicit(&slabs[class], &first, fresh, memory_order_release, memory_order_relaxed));
     return fresh;
 }
 
@@ -273,7 +263,7 @@ static bool changes(slab *one, uint64_t from)
 /* A new slab, of which this thread is about to take a block; NULL without memory. */
 static slab *make_slab(unsigned class, size_t each)
 {
-    slab *one = atomic_load_explicit(&classes[class].slabs, memory_order_acquire);
+    slab *one = atomic_load_explicit(&slabs[class], memory_order_acquire);
     while (one && !changes(one, NO_PAGES))
         one = one->after;
     if (!one && !(one = add_slabs(class, each)))
@@ -304,8 +294,7 @@ static void unmake_slab(slab *one)
     atomic_store_explicit(&one->held, NO_PAGES, memory_order_release);
 }
 
-/* Whether this thread may take a block of the slab: it has pages, and more blocks than threads have or take. The exchange fails where
-   another thread took or gave one meanwhile. */
+/* Whether the slab has a block for this thread, which is counted then. An exchange fails where another thread has taken or given one. */
 static bool has_room(slab *one)
 {
     uint64_t held = atomic_load_explicit(&one->held, memory_order_relaxed);
@@ -332,16 +321,16 @@ static char *take_from(slab *one)
 /* A block of a class; NULL without memory. */
 static void *take(unsigned class, size_t each)
 {
-    slab *near = atomic_load_explicit(&classes[class].near, memory_order_acquire), *from = near;
+    slab *last = atomic_load_explicit(&near[class], memory_order_acquire), *from = last;
     if (!from || !has_room(from)) {
-        from = atomic_load_explicit(&classes[class].slabs, memory_order_acquire);
+        from = atomic_load_explicit(&slabs[class], memory_order_acquire);
         while (from && !has_room(from))
             from = from->after;
     }
     if (!from && !(from = make_slab(class, each)))
         return NULL;
-    if (from != near)
-        atomic_store_explicit(&classes[class].near, from, memory_order_release);
+    if (from != last)
+        atomic_store_explicit(&near[class], from, memory_order_release);
     return take_from(from);
 }
 
@@ -374,11 +363,10 @@ static unsigned class_of(size_t each)
     return 4 * power + (unsigned)(each >> (power - 2)) - 29;
 }
 
-/* Clearing a large block from a unit on gives the whole pages back to the system, and they are zero whatever was in them. Pages that nobody
-   has touched cost nothing so. */
+/* Clearing a large block from a unit on gives its pages back to the system: they are zero then, and cost nothing if nobody touched them. */
 void *__wrap_memset(void *at, int byte, size_t size)
 {
-    bool is_large = byte == 0 && size >= LARGE && (uintptr_t)at % UNIT == 0 && what_is_at(at) % 2 == 1;
+    bool is_large = byte == 0 && size >= UNIT && (uintptr_t)at % UNIT == 0 && what_is_at(at) % 2 == 1;
     size_t cleared = is_large && madvise(at, size / PAGE * PAGE, MADV_DONTNEED) == 0 ? size / PAGE * PAGE : 0;
     __real_memset((char *)at + cleared, byte, size - cleared);
     return at; /* so that it is a call and no jump: a thread sanitizer that doesn't see units knows blocks by this function */
@@ -389,7 +377,7 @@ void *__wrap_malloc(size_t size)
     if (size < OURS_FROM || size > PTRDIFF_MAX - UNIT)
         return size < OURS_FROM ? __real_malloc(size) : NULL;
     size_t each = rounded(size);
-    return size < LARGE ? take(class_of(each), each) : take_large(each);
+    return size < UNIT ? take(class_of(each), each) : take_large(each);
 }
 
 void *__wrap_calloc(size_t count, size_t each)

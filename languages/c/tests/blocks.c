@@ -55,7 +55,7 @@ static void classes_of_sizes(void)
 {
     size_t last = 0;
     unsigned classes_seen = 0;
-    for (size_t size = 1; size < LARGE; size++) {
+    for (size_t size = 1; size < UNIT; size++) {
         size_t each = rounded(size);
         EXPECT(each >= size && each % 16 == 0 && (each - size < 32 || each - size < each / 5));
         if (each != last)
