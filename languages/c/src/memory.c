@@ -348,7 +348,8 @@ __attribute__((destructor)) static void end(void) { give_kept_back(&for_slabs, S
 
 /* ---- what stands for the C library's ------------------------------------------------------- */
 
-/* How large a block is that has so many bytes: four sizes for each power of two, or whole pages. And the class of such blocks. */
+/* How large a block is that has so many bytes: four sizes for each power of two, or whole pages; and the class of such blocks. A block of
+   a multiple of 2^k bytes, up to a page, begins at such a multiple, too. */
 static size_t rounded(size_t size)
 {
     size_t step = size > MIDDLING ? PAGE : size <= 256 ? 32 : (size_t)1 << (61 - __builtin_clzl(size - 1));

@@ -43,10 +43,12 @@ static int is_large(const void *block)
     return (uintptr_t)block % (2 * MIB) == 0;
 }
 
+/* A block that begins at a multiple of the greatest power of two of which its size is one, up to a page. */
 static unsigned char *taken(size_t size)
 {
     unsigned char *block = malloc(size);
-    EXPECT(block != NULL && (uintptr_t)block % 16 == 0);
+    size_t power = size & -size, most = power < 16 ? 16 : power < PAGE ? power : PAGE;
+    EXPECT(block != NULL && (uintptr_t)block % most == 0);
     return block;
 }
 
@@ -444,46 +446,34 @@ static void *takes_until_stopped(void *given)
 {
     uint64_t state = 88172645463325252 + (uintptr_t)given;
     while (!is_within) {
-        size_t size = (size_t)1 << drawn(&state) % (drawn(&state) % 16 ? 21 : 23);
+        size_t size = (size_t)1 << drawn(&state) % (drawn(&state) % 64 ? 21 : 23);
         is_within = 1;
         void *block = malloc(size);
-        is_within = 0;
-        sched_yield();
-        is_within = 1;
         free(block);
         is_within = 0;
     }
     return NULL;
 }
 
-static pthread_t thread_to_stop(int number)
-{
-    pthread_attr_t attributes;
-    pthread_t thread;
-    EXPECT(pthread_attr_init(&attributes) == 0 && pthread_attr_setstacksize(&attributes, 1 << 16) == 0);
-    EXPECT(pthread_create(&thread, &attributes, takes_until_stopped, (void *)(uintptr_t)number) == 0);
-    return thread;
-}
-
-/* Threads are stopped for good within a take or a give, one after another, by a signal. Others go on. What those had in hand is lost, and
+/* Threads are stopped for good within a take or a give, one after another, by a signal. Another goes on. What those had in hand is lost, and
    all else is used again. */
 static void stopped_threads(void)
 {
     const struct sigaction action = {.sa_handler = stops_for_good};
-    pthread_t threads[4];
+    pthread_attr_t attributes;
     uint64_t state = 88172645463325252;
     EXPECT(sigaction(SIGUSR1, &action, NULL) == 0);
-    for (int i = 0; i < 4; i++)
-        threads[i] = thread_to_stop(i);
+    EXPECT(pthread_attr_init(&attributes) == 0 && pthread_attr_setstacksize(&attributes, 1 << 16) == 0);
     double before = expect_mebibytes().present;
     for (int i = 0; i < STOPPED; i++) {
+        pthread_t thread;
+        EXPECT(pthread_create(&thread, &attributes, takes_until_stopped, (void *)(uintptr_t)i) == 0);
         while (atomic_load_explicit(&stopped, memory_order_relaxed) == i) {
-            nanosleep(&(struct timespec){.tv_nsec = 1 + i * 7919 % 50000}, NULL);
-            EXPECT(pthread_kill(threads[i % 4], SIGUSR1) == 0);
+            nanosleep(&(struct timespec){.tv_nsec = 1 + i * 7919 % 20000}, NULL);
+            EXPECT(pthread_kill(thread, SIGUSR1) == 0);
         }
-        for (int turn = 0; turn < 100; turn++)
+        for (int turn = 0; turn < 50; turn++)
             pass_one(&state);
-        threads[i % 4] = thread_to_stop(i);
     }
     EXPECT(expect_mebibytes().present < before + STOPPED / 2);
 }
@@ -541,8 +531,10 @@ int main(int count, char **words)
     free(taken(9 * MIB));               /* and no slab */
     double before = expect_mebibytes().all;
     classes_of_sizes();
-    for (size_t size = 1; size <= SMALL; size += size / 3 + 1)
+    for (size_t size = 1; size <= SMALL; size += size / 3 + 1) {
         small_blocks(size);
+        small_blocks((size + 127) & -(size_t)128);
+    }
     zeroed_blocks();
     new_blocks();
     cleared_blocks();
