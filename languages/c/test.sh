@@ -26,7 +26,7 @@ many_seats      archive checked=500,100000 sanitized=200,50000
 large           archive sanitized=6
 checked         archive
 passed_maps     archive=100000 sanitized=2000
-blocks          memory sanitized=100
+blocks          memory sanitized=50
 bindings        archive musl sanitized
 objects         archive fenced=20000 sanitized=5000
 endless         archive musl=all,0.05 fenced=all,0.1 small=the_largest_table_fills divided=all,0.1 sanitized=all,0.1

@@ -455,8 +455,8 @@ static void *takes_until_stopped(void *given)
     return NULL;
 }
 
-/* Threads are stopped for good within a take or a give, one after another, by a signal. Another goes on. What those had in hand is lost, and
-   all else is used again. */
+/* Threads are stopped for good within a take or a give, one after another, by a signal. Another goes on. What those had in hand is lost,
+   and all else is used again. */
 static void stopped_threads(void)
 {
     const struct sigaction action = {.sa_handler = stops_for_good};
