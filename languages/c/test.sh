@@ -13,6 +13,7 @@ shopt -s extglob
 # with the library's sources, but those that the test includes itself:
 #   sources    as they are                           divided     into parts while it is small still, with -DSAMVOLIP_CHECKED
 #   fenced     without membarrier                    small       with small tables at most
+#   delayed    threads wait at random before each step at a shared word of the moving map
 #   sanitized  divided, by each sanitizer; address and thread name one of them
 # and each request for memory refused in turn: refused with libsamvolip.a, which takes pages alone; refused_each with the sources, and
 # malloc's small blocks; refused_parts with these, divided.
@@ -35,8 +36,12 @@ filtered        archive
 inside_map      sources
 inside_memory   sources
 inside_objects  sources
+moving          sources sanitized
+moving_threads  sources=3 fenced=2 delayed=3 sanitized=2
+moving_stops    delayed=3
 memory          refused refused_each
 endless_memory  refused_parts
+moving_memory   refused_parts
 refused_handlers archive
 TABLE
 }
@@ -54,6 +59,7 @@ try() {
         sources) parts=("${sources[@]}") ;;
         fenced) parts=("${sources[@]}") more=(-DNO_MEMBARRIER) ;;
         small) parts=("${sources[@]}") more=(-DMOST_EXPONENT=11) ;;
+        delayed) parts=("${sources[@]}") more=(-DDELAYS -I"$here/tests/delayed") ;;
         divided) parts=("${sources[@]}") more=("${divided[@]}" -DSAMVOLIP_CHECKED) ;;
         address | thread)
             sanitize "${kind/address/address,undefined}"
