@@ -66,27 +66,6 @@ static uint64_t piece_left(const struct lane *lane, const struct core *core)
     return pieces;
 }
 
-#ifdef KEY_BY_KEY /* for a library that moves no stretches */
-/* Settles the keys that have numbers in the slots up to `end`, and passes these. False: memory is refused. */
-static bool move_slots(struct lane *lane, struct core *core, uint64_t *slot, uint64_t end)
-{
-    const uint64_t frozen_from = SAMVOLIP_CORE_USER_MAX + 2, closed = 2 * frozen_from - 1;
-    samvolip_entry entries[PIECE];
-    samvolip_cursor cursor;
-    uint64_t count = 0;
-    samvolip_seat *seat = seat_in(core, lane);
-    if (samvolip_walk_from(seat, *slot, &cursor) == SAMVOLIP_PRESENT)
-        samvolip_list(seat, &cursor, end, entries, PIECE, &count);
-    for (const samvolip_entry *entry = entries; entry < entries + count; entry++) {
-        bool is_frozen = entry->number >= frozen_from;
-        int found = entry->number == closed ? SAMVOLIP_CORE_CLOSED : is_frozen ? SAMVOLIP_CORE_FROZEN : SAMVOLIP_CORE_OPEN;
-        if (settle_found(lane, 0, core, entry->key, found, is_frozen ? entry->number - frozen_from : entry->number) < 0)
-            return false;
-    }
-    *slot = end;
-    return true;
-}
-#else
 /* Settles the keys that have numbers in the slots up to `end`, and passes them; but none, or some, where another thread's write came first.
    False: memory is refused. */
 static bool move_slots(struct lane *lane, struct core *core, uint64_t *slot, uint64_t end)
@@ -108,7 +87,6 @@ static bool move_slots(struct lane *lane, struct core *core, uint64_t *slot, uin
         *slot += moved.passed;
     return true;
 }
-#endif
 
 /* Settles all keys of a piece that have a number, and sets its flag, unless memory is refused. */
 static void do_piece(struct lane *lane, struct core *core, uint64_t piece)
