@@ -6,6 +6,9 @@ use nb_core::{Key, Num, RangeFault, Shape};
 use nb_map::Handle;
 use nb_migration::copying::{Copied, copy, copy_and_mark, copy_on};
 use nb_migration::looking::look;
+use nb_migration::pieces::{
+    FrozenEntry, MovedStretch, Stretch, copy_all, freeze_stretch, mark_all, move_stretch,
+};
 use nb_migration::settling::{close_if_absent, freeze, mark};
 use nb_migration::updates::{fetch_max, fetch_min, replace};
 use nb_migration::writes::{
@@ -436,4 +439,137 @@ fn numbers_of_the_user(rt: HostRuntime) {
     assert!(rt; UserNumber::new(USER_MAX + 1) == Err(RangeFault::ValueRange));
     assert!(rt; UserNumber::new(FROZEN) == Err(RangeFault::ValueRange));
     assert!(rt; UserNumber::new(CLOSED) == Err(RangeFault::ValueRange));
+}
+
+/// An entry of a list as plain numbers: its key, its number and its slot.
+type Listed = (u64, u64, usize);
+
+/// Whether these entries are listed first.
+fn lists(list: &[FrozenEntry; 4], entries: &[Listed]) -> bool {
+    list.iter().zip(entries.iter()).all(|(found, entry)| (
+        found.key.get(),
+        found.number.get(),
+        found.slot,
+    ) == *entry)
+}
+
+/// The entry of these numbers.
+fn entry<R: Abort>(rt: &R, plain: Listed) -> FrozenEntry {
+    FrozenEntry {
+        key: key(rt, plain.0),
+        number: user(rt, plain.1),
+        slot: plain.2,
+    }
+}
+
+/// Freezes four slots at most, from this one on: so many are done, and these entries are listed.
+fn freezes<R: Abort>(rt: &R, core: &mut Handle, first: usize, passed: usize, entries: &[Listed]) {
+    assert!(rt; core.shape().generations() == 1);
+    let mut list = [entry(rt, (9, 9, 9)); 4];
+    let listed = entries.len();
+    assert!(rt; freeze_stretch(core, first, &mut list, 1) == Stretch { passed, listed });
+    assert!(rt; lists(&list, entries));
+}
+
+/// A number of the user, one that is frozen, a removed one, and another number, each at its home slot.
+const STRETCH: [Row; 7] = [
+    (0, Put(10), Came),
+    (1, Put(11), Came),
+    (1, Freeze(11), Frozen(11)),
+    (2, Put(12), Came),
+    (2, Remove, Changed(12)),
+    (3, Put(13), Came),
+    (3, Close, Open(13)),
+];
+
+/// A stretch ends at the table's end. What is frozen is listed, also what was before.
+#[test]
+fn stretches(rt: HostRuntime) {
+    let mut core = played(&rt, &STRETCH);
+    freezes(&rt, &mut core, 4, 0, &[]);
+    freezes(&rt, &mut core, 2, 2, &[(3, 13, 3)]);
+    sees(
+        &rt,
+        &mut core,
+        &[(3, Mark(13), Closed), (0, Look, Open(10))],
+    );
+    let entries = [(0, 10, 0), (1, 11, 1)];
+    freezes(&rt, &mut core, 0, 4, &entries);
+    freezes(&rt, &mut core, 0, 4, &entries);
+    sees(
+        &rt,
+        &mut core,
+        &[(0, Look, Frozen(10)), (2, Look, Absent), (3, Look, Closed)],
+    );
+    let mut empty = played(&rt, &[(1, Put(1), Came)]);
+    freezes(&rt, &mut empty, 0, 4, &[(1, 1, 1)]);
+}
+
+/// Entries of a list are copied in their order, and those are marked that have come, or had come.
+/// An entry with another key's slot, or with none of the core's, is marked as well.
+#[test]
+fn lists_move(rt: HostRuntime) {
+    let mut source = played(&rt, &ALL_FROZEN);
+    let mut core = played(&rt, &BEHIND);
+    assert!(rt; source.shape().generations() == 1 && core.shape().generations() == 1);
+    let list = [(1, 5, 1), (2, 5, 3), (3, 5, 4), (4, 5, 0)];
+    let entries = [
+        entry(&rt, list[0]),
+        entry(&rt, list[1]),
+        entry(&rt, list[2]),
+        entry(&rt, list[3]),
+    ];
+    let mut answers = [Copied::Full; 4];
+    copy_all(&mut core, &entries, &mut answers);
+    let told = [
+        Copied::Closed,
+        Copied::HadNumber,
+        Copied::HadNumber,
+        Copied::Came,
+    ];
+    assert!(rt; answers == told);
+    assert!(rt; mark_all(&mut source, &entries, &[Copied::Full; 4], 1) == 4);
+    sees(
+        &rt,
+        &mut source,
+        &[(2, Look, Frozen(5)), (4, Look, Frozen(5))],
+    );
+    assert!(rt; mark_all(&mut source, &entries, &answers, 1) == 4);
+    let left = [
+        (1, Look, Frozen(5)),
+        (2, Look, Closed),
+        (3, Look, Closed),
+        (4, Look, Closed),
+    ];
+    sees(&rt, &mut source, &left);
+}
+
+/// A stretch is frozen, copied and marked by one call.
+#[test]
+fn stretches_move(rt: HostRuntime) {
+    let mut source = played(&rt, &STRETCH);
+    let mut core = played(&rt, &[(1, Close, Closed)]);
+    assert!(rt; source.shape().generations() == 1 && core.shape().generations() == 1);
+    let mut list = [entry(&rt, (9, 9, 9)); 4];
+    let mut answers = [Copied::Full; 4];
+    let moved = move_stretch(&mut source, &mut core, 0, &mut list, &mut answers, 1);
+    let stretch = Stretch {
+        passed: 4,
+        listed: 3,
+    };
+    assert!(rt; moved == MovedStretch { stretch, marked: 3 });
+    assert!(rt; lists(&list, &[(0, 10, 0), (1, 11, 1), (3, 13, 3)]));
+    assert!(rt; answers == [Copied::Came, Copied::Closed, Copied::Came, Copied::Full]);
+    let left = [
+        (0, Look, Closed),
+        (1, Look, Frozen(11)),
+        (2, Look, Absent),
+        (3, Look, Closed),
+    ];
+    sees(&rt, &mut source, &left);
+    sees(
+        &rt,
+        &mut core,
+        &[(0, Look, Open(10)), (1, Look, Closed), (3, Look, Open(13))],
+    );
 }
