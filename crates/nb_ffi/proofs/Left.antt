@@ -44,43 +44,43 @@ module _
     (less : i < length entries) (long : length answers ≡ length entries)
     (fits : length entries ≤ length room) (so_far : IsLeft entries answers room i left count)
   where
-  pub left-goes :
-      (d : FrozenEntry) (b : Copied) → goes_on (slice_index_or answers i b) ≡ true
-      → (entry : FrozenEntry) → entry ≡ slice_index_or entries i d
-      → IsLeft entries answers room (i + 1)
-      (slice_set left count (record { key = entry.key; number = entry.number })) (count + 1)
-  left-goes d b goes entry is =
-      let pairs = going_on (take i entries) (take i answers) in
-      let more : going_on (take (i + 1) entries) (take (i + 1) answers)
-          ≡ pairs ++ (entry.key, entry.number) ∷ [] =
-      ap (λ n. going_on (take n entries) (take n answers)) (add-one i)
-      ∙ left-more entries answers i d b less long
-      ∙ ap (λ goes. pairs ++ one_more goes (slice_index_or entries i d)) goes
-      ∙ ap (λ e. pairs ++ one_more true e) (sym is) in
-      record {
-        written = ap (λ l. slice_set l count (entry_in_c (entry.key, entry.number))) so_far.written
-            ∙ ap (λ n. slice_set (written_over pairs room) n (entry_in_c (entry.key, entry.number)))
-            so_far.many
-            ∙ written-one pairs room (entry.key, entry.number)
-            (omega (arith, so_far.many, so_far.few, less, fits))
-            ∙ ap (λ l. written_over l room) (sym more);
-        many = ap (λ n. n + 1) so_far.many ∙ sym (length_push pairs (entry.key, entry.number))
-            ∙ ap length (sym more);
-        few = omega (arith, so_far.few);
-      }
+    pub left-goes :
+        (d : FrozenEntry) (b : Copied) → goes_on (slice_index_or answers i b) ≡ true
+        → (entry : FrozenEntry) → entry ≡ slice_index_or entries i d
+        → IsLeft entries answers room (i + 1)
+        (slice_set left count (record { key = entry.key; number = entry.number })) (count + 1)
+    left-goes d b goes entry is =
+        let pairs = going_on (take i entries) (take i answers) in
+        let more : going_on (take (i + 1) entries) (take (i + 1) answers)
+        ≡ pairs ++ (entry.key, entry.number) ∷ [] =
+        ap (λ n. going_on (take n entries) (take n answers)) (add-one i)
+        ∙ left-more entries answers i d b less long
+        ∙ ap (λ goes. pairs ++ one_more goes (slice_index_or entries i d)) goes
+        ∙ ap (λ e. pairs ++ one_more true e) (sym is) in
+        record {
+          written = ap (λ l. slice_set l count (entry_in_c (entry.key, entry.number))) so_far.written
+              ∙ ap (λ n. slice_set (written_over pairs room) n (entry_in_c (entry.key, entry.number)))
+              so_far.many
+              ∙ written-one pairs room (entry.key, entry.number)
+              (omega (arith, so_far.many, so_far.few, less, fits))
+              ∙ ap (λ l. written_over l room) (sym more);
+          many = ap (λ n. n + 1) so_far.many ∙ sym (length_push pairs (entry.key, entry.number))
+              ∙ ap length (sym more);
+          few = omega (arith, so_far.few);
+        }
 
-  pub left-stays :
-      (d : FrozenEntry) (b : Copied) → goes_on (slice_index_or answers i b) ≡ false
-      → IsLeft entries answers room (i + 1) left count
-  left-stays d b stays =
-      let pairs = going_on (take i entries) (take i answers) in
-      let more : going_on (take (i + 1) entries) (take (i + 1) answers) ≡ pairs =
-      ap (λ n. going_on (take n entries) (take n answers)) (add-one i)
-      ∙ left-more entries answers i d b less long
-      ∙ ap (λ goes. pairs ++ one_more goes (slice_index_or entries i d)) stays
-      ∙ append-nil pairs in
-      record {
-        written = so_far.written ∙ ap (λ l. written_over l room) (sym more);
-        many = so_far.many ∙ ap length (sym more);
-        few = omega (arith, so_far.few);
-      }
+    pub left-stays :
+        (d : FrozenEntry) (b : Copied) → goes_on (slice_index_or answers i b) ≡ false
+        → IsLeft entries answers room (i + 1) left count
+    left-stays d b stays =
+        let pairs = going_on (take i entries) (take i answers) in
+        let more : going_on (take (i + 1) entries) (take (i + 1) answers) ≡ pairs =
+        ap (λ n. going_on (take n entries) (take n answers)) (add-one i)
+        ∙ left-more entries answers i d b less long
+        ∙ ap (λ goes. pairs ++ one_more goes (slice_index_or entries i d)) stays
+        ∙ append-nil pairs in
+        record {
+          written = so_far.written ∙ ap (λ l. written_over l room) (sym more);
+          many = so_far.many ∙ ap length (sym more);
+          few = omega (arith, so_far.few);
+        }

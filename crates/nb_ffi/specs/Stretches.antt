@@ -38,17 +38,17 @@ pub record IsStretchTold (moved : MovedStretch) (entries : List FrozenEntry) (an
       told.left ≡ length
       (going_on (take moved.stretch.listed entries) (take moved.stretch.listed answers))
   pub passed : told.passed ≡ moved.stretch.passed
-  pub code : code ≡ (if moved.marked == moved.stretch.listed then OK else E_CONTENDED)
+  pub marks : code ≡ (if moved.marked == moved.stretch.listed then OK else E_CONTENDED)
 
 -- what happens in the core that the keys leave: its numbers are frozen, and later marked
 abbrev pub HasLeftStretch :
     (first tries : ℕ) → (old new : List FrozenEntry) → List Copied → MovedStretch
     → (before after : HandleOf) → Type 0
 HasLeftStretch first tries old new answers moved =
-    HasCalled (λ m before after. (then : SeatOf)
-    × HasFrozenStretch m first (max tries 1) before then old new moved.stretch
+    HasCalled (λ m before after. (middle : SeatOf)
+    × HasFrozenStretch m first (max tries 1) before middle old new moved.stretch
     × HasMarkedAll m (take moved.stretch.listed new) (take moved.stretch.listed answers)
-    (max tries 1) then after moved.marked)
+    (max tries 1) middle after moved.marked)
 
 -- what happens in the core behind: they are copied
 abbrev pub HasTakenStretch :

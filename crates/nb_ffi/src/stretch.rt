@@ -1,6 +1,6 @@
 //! Moves of stretches of a core's slots. What has to be settled key by key after one is written into
 //! an array of the caller's.
-ghost use Rattle.std.specs.Prelude.{length, max, min, take, ℕ, List, ◌×◌, ◌≡◌, ◌≤◌};
+ghost use Rattle.std.specs.Prelude.{length, min, List, ◌≡◌, ◌≤◌};
 ghost use Rattle.nb_core.specs.Plans.{generations_of};
 ghost use Rattle.nb_ffi.specs.Entries.{written_over};
 ghost use Rattle.nb_ffi.specs.Stretches.{HasLeftStretch, HasTakenStretch, IsStretchTold, goes_on, going_on};
@@ -61,15 +61,51 @@ pub(crate) fn move_stretch(
     let room = left.len().min(CORE_STRETCH);
     let mut list = [blank(); CORE_STRETCH];
     let mut answers = [Copied::Came; CORE_STRETCH];
-    let (entries, answered) = (&mut list[..room], &mut answers[..room]);
-    let moved = pieces::move_stretch(source, target, first, entries, answered, tries);
+    move_listed(
+        source,
+        target,
+        first,
+        tries,
+        &mut list[..room],
+        &mut answers[..room],
+        left,
+    )
+}
+
+/// The same with room for the list and its answers.
+fn move_listed(
+    source: &mut Handle,
+    target: &mut Handle,
+    first: usize,
+    tries: u32,
+    list: &mut [FrozenEntry],
+    answers: &mut [Copied],
+    left: &mut [MapEntry],
+) -> (i32, CoreStretch)
+    requires one { (generations_of source.old.map.chain.shape ≡ 1)
+        × (generations_of target.old.map.chain.shape ≡ 1) }
+    requires room { length answers.old ≡ length list.old }
+    requires left { length list.old ≤ length left.old }
+    ensures { (moved : MovedStretch)
+        × IsStretchTold moved list.new answers.new result.0 left.old left.new result.1
+        × HasLeftStretch first tries list.old list.new answers.new moved source.old source.new
+        × HasTakenStretch list.new answers.new moved target.old target.new }
+{
+    let moved = pieces::move_stretch(source, target, first, list, answers, tries);
     let listed = moved.stretch.listed;
-    let count = write_left(&entries[..listed], &answered[..listed], left);
+    let count = write_left(&list[..listed], &answers[..listed], left);
     let told = CoreStretch {
         passed: moved.stretch.passed as u64,
         left: count as u64,
     };
-    (if moved.marked == listed { OK } else { E_CONTENDED }, told)
+    (
+        if moved.marked == listed {
+            OK
+        } else {
+            E_CONTENDED
+        },
+        told,
+    )
 }
 
 /// Writes the entries whose copies go on, and answers how many these are.
@@ -82,9 +118,10 @@ fn write_left(entries: &[FrozenEntry], answers: &[Copied], left: &mut [MapEntry]
     let mut count = 0;
     for i in 0..entries.len() {
         if goes_on(answers[i]) {
+            let entry = entries[i];
             left[count] = MapEntry {
-                key: entries[i].key.get(),
-                number: entries[i].number.get(),
+                key: entry.key.get(),
+                number: entry.number.get(),
             };
             count += 1;
         }

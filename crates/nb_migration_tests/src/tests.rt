@@ -534,6 +534,7 @@ fn lists_move(rt: HostRuntime) {
         &mut source,
         &[(2, Look, Frozen(5)), (4, Look, Frozen(5))],
     );
+    assert!(rt; source.shape().generations() == 1);
     assert!(rt; mark_all(&mut source, &entries, &answers, 1) == 4);
     let left = [
         (1, Look, Frozen(5)),

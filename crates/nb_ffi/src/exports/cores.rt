@@ -31,8 +31,8 @@ ghost use Rattle.nb_ffi.specs.declared.stretch.CoreStretch.{CoreStretch};
 
 use crate::codes::{E_TABLES, key_of};
 use crate::cores::{
-    copied_code, copied_on_code, copy_of, is_core, marked_code, seen_told, sides_of, tell, user_entry_of,
-    user_pair_of, written_told,
+    copied_code, copied_on_code, copy_of, is_core, marked_code, seen_told, sides_of, tell,
+    user_entry_of, user_pair_of, written_told,
 };
 use crate::ended_map::MapEntry;
 use crate::seat_handle::SeatHandle;
