@@ -45,6 +45,11 @@ void *__real_realloc(void *block, size_t size);
 void __real_free(void *block);
 void *__real_memset(void *at, int byte, size_t size);
 
+/* A thread sanitizer that sees the program, and not the library, has to be told that what was done in a block comes before what its next
+   owner does. Without one these are NULL. */
+void __tsan_acquire(void *block) __attribute__((weak));
+void __tsan_release(void *block) __attribute__((weak));
+
 /* ---- what is at an address ----------------------------------------------------------------- */
 
 /* For each unit of addresses: 0; the address of the slab that it is of; or 1 more than the size of the large block that it is of. */
@@ -378,7 +383,10 @@ void *__wrap_malloc(size_t size)
     if (size < OURS_FROM || size > PTRDIFF_MAX - UNIT)
         return size < OURS_FROM ? __real_malloc(size) : NULL;
     size_t each = rounded(size);
-    return size < UNIT ? take(class_of(each), each) : take_large(each);
+    void *block = size < UNIT ? take(class_of(each), each) : take_large(each);
+    if (block != NULL && __tsan_acquire != NULL)
+        __tsan_acquire(block);
+    return block;
 }
 
 void *__wrap_calloc(size_t count, size_t each)
@@ -391,6 +399,8 @@ void *__wrap_calloc(size_t count, size_t each)
 void __wrap_free(void *block)
 {
     uintptr_t what = what_is_at(block);
+    if (what != 0 && __tsan_release != NULL)
+        __tsan_release(block);
     if (what == 0)
         __real_free(block);
     else if (what % 2 == 1)
