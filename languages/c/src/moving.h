@@ -1,7 +1,7 @@
-/* moving.h - a map without an end in which no call of a key waits for another thread, whatever that does: it may stand still for good in
-   the middle of a call. It isn't installed, and nothing installed uses it yet. docs/migration.md tells the protocol, and migration.h how
-   the files beside it share the work. Keys go up to SAMVOLIP_KEY_MAX, and are taken as they are; numbers go up to
-   SAMVOLIP_CORE_USER_MAX. */
+/* moving.h - a map that grows and shrinks, in which no call of a key waits for another thread, whatever that does: it may stand still for
+   good in the middle of a call. (But where all lanes are taken: see `lanes`.) It isn't installed, and nothing installed uses it yet. As yet
+   it ends at 2^28 slots, and after a fork the child must not call it. docs/migration.md tells the protocol, and migration.h how the files
+   beside it share the work. Keys go up to SAMVOLIP_KEY_MAX, and are taken as they are; numbers go up to SAMVOLIP_CORE_USER_MAX. */
 #ifndef MOVING_H
 #define MOVING_H
 #include "samvolip_map.h"
